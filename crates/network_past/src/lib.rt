@@ -71,6 +71,7 @@ fn valid_links(tables: &NetworkTables, demands: &[u32], row: &[u32], arrivals: &
     requires { LinksAsked tables.now demands.now row.now arrivals.now }
     ensures { result ≡ valid_links_in tables.now demands.now row.now arrivals.now tables.now.reading.counts.links }
 {
+    // By index: the tests of a link read five tables.
     (0..tables.reading.counts.links).all(|i| valid_past(tables, demands, row, arrivals, i))
 }
 

@@ -1,6 +1,5 @@
 -- Row 0 at the start of the timeline, the steps at boundary 0, and the curves of the links as they are kept.
 use Rattle.base_laws.proofs.Kit.{ℕ, ◌+◌, ◌*◌, ◌-◌, ◌≤◌, ◌<◌, ◌≡◌, refl, ◌∙◌, List, ℕ_discrete, arith, length, get_or, set, length-set, get_or-set_same, get_or-set_other}
-use Rattle.model.specs.Network.{max_links}
 use Rattle.network_tables.specs.declared.Link.{Link}
 use Rattle.network_tables.specs.declared.NetworkTables.{NetworkTables}
 use Rattle.network_tables.specs.Fields.{standing_in, past_entries_in, entered_in, left_in}
@@ -23,17 +22,17 @@ pub record FindingTo (tables : NetworkTables) (arrivals : List Arrival) (n : ℕ
   pub found : Found tables n arrivals
 
 -- ---- the turns of `keep_curves`
-pub record KeepingTo (line : PastLine) (row : List ℕ) (links : ℕ) (before arrivals : List Arrival) (n : ℕ) : Type 0 where
-  pub within : n ≤ links
-  pub size : length arrivals ≡ max_links
+pub record KeepingTo (line : PastLine) (row : List ℕ) (before arrivals : List Arrival) (n : ℕ) : Type 0 where
+  pub within : n ≤ length before
+  pub size : length arrivals ≡ length before
   pub done : (i : ℕ) → i < n → KeptAt line row i (arrival_at before i) (arrival_at arrivals i)
   pub rest : (i : ℕ) → n ≤ i → arrival_at arrivals i ≡ arrival_at before i
 
-module _ {line : PastLine} {row : List ℕ} {links : ℕ} {before : List Arrival} (asked : KeepAsked line row links before) where
-  module _ {arrivals : List Arrival} {n : ℕ} (inv : KeepingTo line row links before arrivals n) (h : n < links) where
+module _ {line : PastLine} {row : List ℕ} {before : List Arrival} (asked : KeepAsked line row before) where
+  module _ {arrivals : List Arrival} {n : ℕ} (inv : KeepingTo line row before arrivals n) (h : n < length before) where
     -- the turn of a link, whatever it waits for then
-    turn : {after : List Arrival} → length after ≡ max_links → KeptAt line row n (arrival_at arrivals n) (arrival_at after n)
-        → ((i : ℕ) → (i ≡ n → ⊥) → arrival_at after i ≡ arrival_at arrivals i) → KeepingTo line row links before after (n + 1)
+    turn : {after : List Arrival} → length after ≡ length before → KeptAt line row n (arrival_at arrivals n) (arrival_at after n)
+        → ((i : ℕ) → (i ≡ n → ⊥) → arrival_at after i ≡ arrival_at arrivals i) → KeepingTo line row before after (n + 1)
     turn size own others =
         record {
           within = omega arith;
@@ -45,13 +44,13 @@ module _ {line : PastLine} {row : List ℕ} {links : ℕ} {before : List Arrival
           rest = λ i l. others i (λ q. omega arith) ∙ inv.rest i (omega arith);
         }
 
-    pub keep-other : ((arrival_at arrivals n).step ≡ line.step → ⊥) → KeepingTo line row links before arrivals (n + 1)
+    pub keep-other : ((arrival_at arrivals n).step ≡ line.step → ⊥) → KeepingTo line row before arrivals (n + 1)
     keep-other d = turn inv.size (record { here = λ e. absurd (d e); same = λ e. refl }) (λ i q. refl)
 
     pub keep-set : (arrival_at arrivals n).step ≡ line.step → {stop entries : ℕ} → stop ≡ entered_in row n → entries ≡ past_entries_in line.fields.now n
-        → KeepingTo line row links before (set arrivals n (record { step = line.step; start = stop - entries; stop = stop; place = line.next })) (n + 1)
+        → KeepingTo line row before (set arrivals n (record { step = line.step; start = stop - entries; stop = stop; place = line.next })) (n + 1)
     keep-set e {stop} {entries} p q =
         let kept : Arrival = record { step = line.step; start = stop - entries; stop = stop; place = line.next } in
         turn (length-set arrivals n kept ∙ inv.size)
-        (record { here = λ o. rw (← p, ← q) (get_or-set_same arrivals n kept no_arrival (omega (arith, inv.size, asked.few))); same = λ o. absurd (o e) })
+        (record { here = λ o. rw (← p, ← q) (get_or-set_same arrivals n kept no_arrival (omega (arith, inv.size))); same = λ o. absurd (o e) })
         (λ i q. get_or-set_other arrivals n i kept no_arrival q)

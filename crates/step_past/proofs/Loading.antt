@@ -1,5 +1,5 @@
 -- Row 0 and the curves at boundary 0, one `H` line after another.
-use Rattle.base_laws.proofs.Kit.{ℕ, suc, ◌+◌, ◌*◌, ◌-◌, ◌/◌, ◌%◌, ◌≤◌, ◌<◌, ◌≡◌, refl, sym, ap, ap₂, ◌∙◌, List, [], ℕ_discrete, add-one, arith, length, take, drop, length-take, length-take-le, length-drop, get_or, get_or-take, get_or-drop}
+use Rattle.base_laws.proofs.Kit.{ℕ, suc, ◌+◌, ◌*◌, ◌-◌, ◌/◌, ◌%◌, ◌≤◌, ◌<◌, ◌≡◌, refl, sym, ap, ap₂, ◌∙◌, List, [], ℕ_discrete, add-one, arith, length, ◌++◌, take, drop, length-append, List·getD-append, length-take, length-take-le, length-drop, get_or, get_or-take, get_or-drop}
 use Rattle.std.specs.Prelude.{Option, Some, None}
 use Rattle.text_reader.specs.Lines.{Line, lines}
 use Rattle.text_reader.specs.Reading.{Starts}
@@ -21,7 +21,7 @@ use Rattle.step_arrivals.specs.Arrivals.{arrival_step_in}
 use Rattle.step_arrivals.proofs.Boundaries.{arrival-is}
 use Rattle.step_past.specs.declared.Arrival.{Arrival}
 use Rattle.step_past.specs.declared.PastLine.{PastLine}
-use Rattle.step_past.specs.Curves.{arrival_at, KeepAsked, past_entered, past_left, CurveTo, Started, Found, ArrivalTable, Kept, PastAsked, PastRow, PastOverflows, PastLoaded}
+use Rattle.step_past.specs.Curves.{no_arrival, arrival_at, KeepAsked, KeptAt, past_entered, past_left, CurveTo, Started, Found, ArrivalTable, Kept, PastAsked, PastRow, PastOverflows, PastLoaded}
 use Rattle.step_past.proofs.Reading.{past-again, past-numbers, past-next, entered-past}
 
 -- what leaves in a past step, and by more steps no less
@@ -164,21 +164,32 @@ module _ {tables : NetworkTables} {before : List ℕ} {arrivals₀ : List Arriva
               let z : 1 + (2 * i + 1) ≡ 2 + 2 * i = omega arith in
               added (2 * i + 1) (omega (arith, own-link i l)) ∙ ap (λ x. get_or row (2 * i + 1) 0 + get_or after x 0) z ∙ left-sum i l
 
+          kept-long : length (take counts.links arrivals) ≡ counts.links
+          kept-long = length-take-le counts.links arrivals (omega (arith, inv.arrivals-at.size, asked.counted.few.links))
+
           -- the line, as it is handed on
           module _ {line' : PastLine} (s : line'.step ≡ m) (f : line'.fields.now ≡ after) (n : line'.next ≡ next) where
-            pub keep-asked : KeepAsked line' row' counts.links arrivals
+            pub keep-asked : KeepAsked line' row' (take counts.links arrivals)
             keep-asked =
                 record {
-                  size = inv.arrivals-at.size;
                   field-size = rw f (read.size ∙ inv.field-size);
-                  few = asked.counted.few.links;
-                  row_room = omega (arith, summed.size, size-all, asked.row_room);
+                  few = omega (arith, kept-long, asked.counted.few.links);
+                  row_room = omega (arith, kept-long, summed.size, size-all, asked.row_room);
                   part = λ i l.
-                      let own : i < link_count (lines text) = omega (arith, asked.counted.links) in
+                      let own : i < link_count (lines text) = omega (arith, kept-long, asked.counted.links) in
                       rw f (omega (arith, entered-now i own, entered-past (lines text) m i below, past-entries-at numbers i own));
                 }
 
-            module _ {arrivals' : List Arrival} (got : Kept line' row' counts.links arrivals arrivals') where
+            module _ {kept : List Arrival} (got : Kept line' row' (take counts.links arrivals) kept) where
+              -- the links that are kept, before what is behind them
+              abbrev arrivals' : List Arrival
+              arrivals' = kept ++ drop counts.links arrivals
+
+              kept-is : (i : ℕ) → i < counts.links → KeptAt line' row' i (arrival_at arrivals i) (arrival_at arrivals' i)
+              kept-is i l =
+                  let own : i < length kept = omega (arith, got.size, kept-long) in
+                  rw (List·getD-append kept (drop counts.links arrivals) no_arrival i own, ← get_or-take counts.links arrivals i no_arrival l) (got.each-link i (omega (arith, kept-long)))
+
               curve-here : (i : ℕ) → i < link_count (lines text)
                   → CurveTo text i (suc m) (record { step = line'.step; start = entered_in row' i - past_entries_in line'.fields.now i; stop = entered_in row' i; place = line'.next })
               curve-here i l =
@@ -190,7 +201,7 @@ module _ {tables : NetworkTables} {before : List ℕ} {arrivals₀ : List Arriva
 
               same-step : (i : ℕ) → i < link_count (lines text) → (arrival_at arrivals' i).step ≡ (arrival_at arrivals i).step
               same-step i l =
-                  let k = got.each-link i (own-link i l) in
+                  let k = kept-is i (own-link i l) in
                   elim (ℕ_discrete (arrival_at arrivals i).step line'.step) [
                     | yes p ↦ rw (k.here p) (sym p)
                     | no p ↦ rw (k.same p) refl
@@ -198,11 +209,14 @@ module _ {tables : NetworkTables} {before : List ℕ} {arrivals₀ : List Arriva
 
               curved-next : (i : ℕ) → i < link_count (lines text) → (arrival_at arrivals' i).step < m + 1 → CurveTo text i ((arrival_at arrivals' i).step + 1) (arrival_at arrivals' i)
               curved-next i l q =
-                  let k = got.each-link i (own-link i l) in
+                  let k = kept-is i (own-link i l) in
                   elim (ℕ_discrete (arrival_at arrivals i).step line'.step) [
                     | yes p ↦ let next-step : line'.step + 1 ≡ suc m = omega (arith, s) in rw (k.here p, next-step) (curve-here i l)
                     | no p ↦ rw (k.same p) (inv.curved i l (omega (arith, same-step i l, s)))
                   ]
+
+              kept-size : length arrivals' ≡ length arrivals
+              kept-size = simp (length-append, length-drop) (omega (arith, got.size, kept-long, inv.arrivals-at.size, asked.counted.few.links))
 
               pub past-line-next : PastTo text counts row₀ row' arrivals' after next (m + 1)
               past-line-next =
@@ -213,6 +227,6 @@ module _ {tables : NetworkTables} {before : List ℕ} {arrivals₀ : List Arriva
                     kept = λ k l. summed.kept k (omega (arith, added-long)) ∙ inv.kept k l;
                     held = record { entered_by = λ i l. rw (add-one m) (entered-now i l); left_by = λ i l. rw (add-one m) (left-now i l) };
                     field-size = read.size ∙ inv.field-size;
-                    arrivals-at = record { size = got.size; holds = λ i l. same-step i l ∙ inv.arrivals-at.holds i l };
+                    arrivals-at = record { size = kept-size ∙ inv.arrivals-at.size; holds = λ i l. same-step i l ∙ inv.arrivals-at.holds i l };
                     curved = curved-next;
                   }

@@ -79,12 +79,11 @@ pub record FindAsked (tables : NetworkTables) (arrivals : List Arrival) : Type 0
 abbrev pub Found : NetworkTables → ℕ → List Arrival → Type 0
 Found tables n arrivals = Arrived tables.times.now tables.links.now n tables.reading.counts.past arrivals
 
-pub record KeepAsked (line : PastLine) (row : List ℕ) (links : ℕ) (arrivals : List Arrival) : Type 0 where
-  pub size : length arrivals ≡ max_links
+pub record KeepAsked (line : PastLine) (row : List ℕ) (arrivals : List Arrival) : Type 0 where
   pub field-size : length line.fields.now ≡ past_size
-  pub few : links ≤ max_links
-  pub row_room : 2 * links ≤ length row
-  pub part : (i : ℕ) → i < links → past_entries_in line.fields.now i ≤ entered_in row i
+  pub few : length arrivals ≤ max_links
+  pub row_room : 2 * length arrivals ≤ length row
+  pub part : (i : ℕ) → i < length arrivals → past_entries_in line.fields.now i ≤ entered_in row i
 
 -- the curve of link i is that of the row after the line's step, if the link's travel time ends in that step; else it is kept
 pub record KeptAt (line : PastLine) (row : List ℕ) (i : ℕ) (before after : Arrival) : Type 0 where
@@ -92,9 +91,9 @@ pub record KeptAt (line : PastLine) (row : List ℕ) (i : ℕ) (before after : A
       → after ≡ record { step = line.step; start = entered_in row i - past_entries_in line.fields.now i; stop = entered_in row i; place = line.next }
   pub same : (before.step ≡ line.step → ⊥) → after ≡ before
 
-pub record Kept (line : PastLine) (row : List ℕ) (links : ℕ) (before after : List Arrival) : Type 0 where
-  pub size : length after ≡ max_links
-  pub each-link : (i : ℕ) → i < links → KeptAt line row i (arrival_at before i) (arrival_at after i)
+pub record Kept (line : PastLine) (row : List ℕ) (before after : List Arrival) : Type 0 where
+  pub size : length after ≡ length before
+  pub each-link : (i : ℕ) → i < length before → KeptAt line row i (arrival_at before i) (arrival_at after i)
 
 -- what loading the past asks ..
 pub record PastAsked (tables : NetworkTables) (row : List ℕ) (arrivals : List Arrival) : Type 0 where

@@ -4,14 +4,13 @@
 #![tactic(auto)]
 
 ghost use Rattle.std.specs.Prelude.{◌≡◌, ◌+◌, ◌*◌, ◌<◌, ◌≤◌, length};
-ghost use Rattle.model.specs.Network.{max_links};
-ghost use Rattle.network_tables.specs.Fields.{past_size, past_entries_in};
+ghost use Rattle.network_tables.specs.Fields.{past_entries_in};
 ghost use Rattle.step_past.specs.Curves.{ReadAsked, CurveTo, Started, FindAsked, Found, KeepAsked, Kept, PastAsked, PastLoaded, LinksAsked, LinksMoved, MoveAsked, PastMoveAsked, Moved, NextAsked, NextGot};
 
 use network_tables::{Link, NetworkTables, PAST_SIZE};
 
 // What a link is waiting for: the step in which its travel time ends. If that is a past one, also what had entered the link by that step's start and by its end,
-// and the place of the `H` line after it.
+// and the place of the `H` line after it. These three are no Option, by which `check_plan` takes 126 instructions more on the corridor, and 1.2 % on the largest.
 #[derive(Clone, Copy, Default)]
 pub struct Arrival {
     pub step: usize,
@@ -31,7 +30,7 @@ struct PastLine<'a> {
 impl PastLine<'_> {
     // What enters link `i` in the step.
     fn entries(&self, i: usize) -> u32
-        requires { (i < max_links) × (length self.now.fields.now ≡ past_size) }
+        requires { 1 + 2 * i < length self.now.fields.now }
         ensures { result ≡ past_entries_in self.now.fields.now i }
     {
         self.fields[1 + 2 * i]
@@ -81,9 +80,8 @@ fn find_steps(tables: &NetworkTables, arrivals: &mut [Arrival])
     ensures { Found tables.now tables.now.reading.counts.links arrivals.new }
 {
     let counts = tables.reading.counts;
-    for i in 0..counts.links {
-        let travel = tables.links[i].travel_time;
-        let step = step_arrivals::arrival_step(tables.times, 0, counts.past, travel);
+    for (i, link) in tables.links[..counts.links].iter().enumerate() {
+        let step = step_arrivals::arrival_step(tables.times, 0, counts.past, link.travel_time);
         arrivals[i] = Arrival {
             step,
             ..Arrival::default()
@@ -92,14 +90,14 @@ fn find_steps(tables: &NetworkTables, arrivals: &mut [Arrival])
 }
 
 // Keeps what had entered each link whose travel time ends in the line's step, by the row at the step's end.
-fn keep_curves(line: &PastLine, row: &[u32], links: usize, arrivals: &mut [Arrival])
-    requires { KeepAsked line.now row.now links arrivals.old }
-    ensures { Kept line.now row.now links arrivals.old arrivals.new }
+fn keep_curves(line: &PastLine, row: &[u32], arrivals: &mut [Arrival])
+    requires { KeepAsked line.now row.now arrivals.old }
+    ensures { Kept line.now row.now arrivals.old arrivals.new }
 {
-    for i in 0..links {
-        if arrivals[i].step == line.step {
+    for (i, arrival) in arrivals.iter_mut().enumerate() {
+        if arrival.step == line.step {
             let stop = network_tables::entered(row, i);
-            arrivals[i] = Arrival {
+            *arrival = Arrival {
                 step: line.step,
                 start: stop - line.entries(i),
                 stop,
@@ -128,7 +126,7 @@ pub fn load_past(tables: &NetworkTables, row: &mut [u32], arrivals: &mut [Arriva
             fields: &fields,
             next: place,
         };
-        keep_curves(&line, row, counts.links, arrivals);
+        keep_curves(&line, row, &mut arrivals[..counts.links]);
     }
     Some(())
 }
@@ -146,6 +144,7 @@ fn move_links(
     ensures { LinksMoved line.now tables.now since first arrivals.old arrivals.new }
 {
     let from = line.step - 1;
+    // By index: two tables go together.
     for i in first..tables.reading.counts.links {
         let arrival = arrivals[i];
         if (arrival.step == from) & (tables.links[i].travel_time <= since) {
@@ -204,6 +203,7 @@ pub fn next_arrivals(tables: &NetworkTables, at: usize, arrivals: &mut [Arrival]
     requires { NextAsked tables.now at arrivals.old }
     ensures { NextGot tables.now at arrivals.new }
 {
+    // By index: what moves a link may move those behind it.
     for i in 0..tables.reading.counts.links {
         move_on(tables, at, i, arrivals);
     }
