@@ -15,15 +15,12 @@ ghost use Rattle.listing_call.specs.Writing.{WriteGot};
 
 use base_search::{Reason, Refusal};
 use listing_lines::{Setting, Variable};
-use model::Signal;
+use model::{MAX_PHASES, Signal};
 use network_tables::{
     Counts, LINE_SIZE, Link, MAX_LINKS, MAX_MOVEMENTS, MAX_SIGNALS, MAX_STEPS, Movement,
     TIME_TABLE_SIZE,
 };
 use network_writer::{ADMITTED_AT, LET_OUT_AT, MOVED_AT};
-
-// How many phases a signal has at most.
-const MAX_PHASES: usize = 8;
 
 // Where the bits of what is admitted, let out and moved start in a step's row, behind those of the phases.
 const ADMITTED_BITS: usize = MAX_PHASES * MAX_SIGNALS;

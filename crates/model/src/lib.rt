@@ -5,8 +5,11 @@
 ghost use Rattle.std.specs.Prelude.{◌≡◌, ◌+◌, ◌*◌, ◌≤◌, get_or};
 ghost use Rattle.model.specs.Signals.{signal_by, signal_row};
 
-// How many numbers a `G` line of eight phases has.
-pub const SIGNAL_FIELDS: usize = 6 + 2 * 8;
+// How many phases a signal has at most.
+pub const MAX_PHASES: usize = 8;
+
+// How many numbers a `G` line of that many phases has.
+pub const SIGNAL_FIELDS: usize = 6 + 2 * MAX_PHASES;
 
 // A signal (the paper's light): its `G` line, with the phase that it shows, for how many seconds, and the seconds since phase 1 last began.
 // `least` and `greatest` have phase k's times at k - 1.
@@ -18,8 +21,8 @@ pub struct Signal {
     pub shown: u32,
     pub shown_for: u32,
     pub cycle_clock: u32,
-    pub least: [u32; 8],
-    pub greatest: [u32; 8],
+    pub least: [u32; MAX_PHASES],
+    pub greatest: [u32; MAX_PHASES],
 }
 
 impl Signal {
