@@ -74,13 +74,7 @@ fn answer_to(
 
 // Judges a case by the library, on the ledgers and the buffer as they are before the call: whether the answer, and the checksum of what the call leaves, are
 // those of the other implementation. Where they are not, the case is printed.
-pub fn judge(
-    rt: &impl Print,
-    number: u32,
-    texts: Texts<'_>,
-    case: Case,
-    lent: Lent<'_>,
-) -> bool
+pub fn judge(rt: &impl Print, number: u32, texts: Texts<'_>, case: Case, lent: Lent<'_>) -> bool
     ensures { result ≡ as_stored (told_to texts.entry lent.entry.ledger.now lent.entry.second_ledger.now lent.entry.buffer.now case.question) case.stored }
 {
     let Lent {

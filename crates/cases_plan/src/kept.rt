@@ -1,4 +1,7 @@
 // What a case may go on with from the case before.
+ghost use Rattle.std.specs.Prelude.{◌≡◌, None, IfOk};
+ghost use Rattle.cases_plan.specs.Kept.{kept_in, GoesOn};
+
 use cases_files::reading::{Malformed, read_u32};
 use std::io::Read;
 
@@ -13,7 +16,10 @@ pub struct Kept<'a, T> {
 }
 
 impl<'a, T> Kept<'a, T> {
-    pub fn new(room: &'a mut [T]) -> Self {
+    pub fn new(room: &'a mut [T]) -> Self
+        ensures empty { kept_in result.room.now result.length ≡ None }
+        ensures room { result.room.now ≡ room.entry.now }
+    {
         Kept { room, length: None }
     }
 
@@ -24,14 +30,19 @@ impl<'a, T> Kept<'a, T> {
         read_items: F,
     ) -> Result<&[T], Malformed>
         requires { F.IsAlwaysCallable read_items }
+        ensures { IfOk result (λ items. GoesOn R.remaining (F.post read_items) (kept_in self.old.room.now self.old.length) file.old file.new items.now) }
     {
         let given = read_u32(file)?;
-        if given != SAME {
-            let items = self.room.get_mut(..given as usize).ok_or(Malformed)?;
-            read_items(file, items)?;
-            self.length = Some(given as usize);
+        if given == SAME {
+            let length = self.length.ok_or(Malformed)?;
+            return self.room.get(..length).ok_or(Malformed);
         }
-        let length = self.length.ok_or(Malformed)?;
-        self.room.get(..length).ok_or(Malformed)
+        let length = given as usize;
+        if self.room.len() < length {
+            return Err(Malformed);
+        }
+        read_items(file, &mut self.room[..length])?;
+        self.length = Some(length);
+        Ok(&self.room[..length])
     }
 }

@@ -27,7 +27,12 @@ pub fn place_of(call: Call, outcome: Outcome) -> usize {
 // A line of the table: how many cases of each call were accepted (0) or refused with a number.
 fn print_line(rt: &impl Print, name: impl Display + Drop, counts: &[u64; COUNTERS], number: usize) {
     let _ = print!(rt; "{name}");
-    for count in counts.iter().skip(number).step_by(ANSWERS).take(CALLS.len()) {
+    for count in counts
+        .iter()
+        .skip(number)
+        .step_by(ANSWERS)
+        .take(CALLS.len())
+    {
         let _ = print!(rt; "\t{count}");
     }
     let _ = println!(rt);
