@@ -116,16 +116,16 @@ module _ (network : List Line) (table : List Tram) (held : TramTable network tab
   unfolding covers_in covers
   covers-is k r n h = rw (tram-is k h) refl
 
-  phase-from : (r n k left : ℕ) → k + left ≡ tram_count network → phase_from table r n k left ≡ tram_phase (drop k (trams network)) r n
+  phase-of-rest : (r n k left : ℕ) → k + left ≡ tram_count network → phase_from table r n k left ≡ tram_phase (drop k (trams network)) r n
   unfolding phase_from tram_phase trams
-  phase-from r n k zero e =
+  phase-of-rest r n k zero e =
       let past : length (take (tram_count network) (drop 1 network)) ≤ k = simp (length-take) (omega arith) in rw (drop_of_length-le _ past)
-  phase-from r n k (suc left) e =
+  phase-of-rest r n k (suc left) e =
       let h : k < tram_count network = omega arith in
-      rw (from-line k h, covers-is k r n h, tram-is k h, phase-from r n (suc k) left (omega arith))
+      rw (from-line k h, covers-is k r n h, tram-is k h, phase-of-rest r n (suc k) left (omega arith))
 
   pub tram-phases-are : {n : ℕ} {asked : List ℕ} → Claimed table n asked → TramPhases network n asked
-  tram-phases-are {n} c = record { size = c.size; holds = λ r l. c.holds r l ∙ phase-from r n 0 (length table) (omega (arith, held.size)) }
+  tram-phases-are {n} c = record { size = c.size; holds = λ r l. c.holds r l ∙ phase-of-rest r n 0 (length table) (omega (arith, held.size)) }
 
 -- a valid line's signal is one of the network's
 module _ {network : List Line} {table : List Tram} {counts : Counts} (held : TramTable network table) (c : CountsHold network counts)

@@ -20,21 +20,21 @@ unfolding line_texts
 none-put letter e output = rw (← e) (let p = put-none output in record { buffer = refl; ends = p.ends; few = omega arith; size = refl; is = p.is })
 
 -- ---- the first k items
-pub rows-none : (letter : ℕ) (f : ℕ → List (List ℕ)) (output : Output) → Put 0 (line_texts letter (rows_to 0 f)) output output
+pub items-none : (letter : ℕ) (f : ℕ → List (List ℕ)) (output : Output) → Put 0 (line_texts letter (rows_to 0 f)) output output
 unfolding rows_to line_texts
-rows-none letter f output = put-none output
+items-none letter f output = put-none output
 
-pub rows-next : (letter : ℕ) (f : ℕ → List (List ℕ)) (k : ℕ) {old now new : Output} → Put k (line_texts letter (rows_to k f)) old now → Put 1 (line_texts letter (f k)) now new
+pub items-next : (letter : ℕ) (f : ℕ → List (List ℕ)) (k : ℕ) {old now new : Output} → Put k (line_texts letter (rows_to k f)) old now → Put 1 (line_texts letter (f k)) now new
     → Put (k + 1) (line_texts letter (rows_to (k + 1) f)) old new
 unfolding rows_to
-rows-next letter f k p q = rw (add-one k, texts-more letter (rows_to k f) (f k)) (rw (add-one k) at (puts-more p q))
+items-next letter f k p q = rw (add-one k, texts-more letter (rows_to k f) (f k)) (rw (add-one k) at (puts-more p q))
 
 pub count-next : (f : ℕ → List (List ℕ)) (k : ℕ) {count more : ℕ} → count ≡ length (rows_to k f) → more ≡ length (f k) → count + more ≡ length (rows_to (k + 1) f)
 unfolding rows_to
 count-next f k e m = rw add-one (omega (arith, e, m, length-append (rows_to k f) (f k)))
 
-pub rows-all : (letter : ℕ) (f : ℕ → List (List ℕ)) {n k : ℕ} → k ≡ n → {old now : Output} → Put k (line_texts letter (rows_to k f)) old now → Put n (line_texts letter (rows_to n f)) old now
-rows-all letter f e p = rw e at p
+pub items-all : (letter : ℕ) (f : ℕ → List (List ℕ)) {n k : ℕ} → k ≡ n → {old now : Output} → Put k (line_texts letter (rows_to k f)) old now → Put n (line_texts letter (rows_to n f)) old now
+items-all letter f e p = rw e at p
 
 -- what may be there is one item or none
 pub one-many : {T : Type 0} (o : Option T) {some : Bool} {n : ℕ} → some ≡ is_some o → n ≡ bool_byte some → (n ≤ 1) × (n ≡ length (option_to_list o))
