@@ -8,6 +8,7 @@ pub mod Padding
 pub mod Opened
 mod Tests
 mod Turns
+mod Looks
 mod Sentinel
 mod Texts
 mod Examples

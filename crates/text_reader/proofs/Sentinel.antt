@@ -1,5 +1,5 @@
 -- The laws of the functions that read a text which a line feed ends: behind a byte that is no line feed the text goes on. Each is in the form of a need.
-use Rattle.base_laws.proofs.Kit.{ℕ, suc, ◌+◌, ◌-◌, ◌*◌, ◌≤◌, ◌<◌, ◌≡◌, refl, sym, ap, ◌∙◌, ◌≢◌, Bool, true, false, cond, not, and-eq-true_iff, List, [], ◌∷◌, arith, add-zero, dec_le, ℕ_discrete, eq-eqb, eqb-true, ne_eqb, eqb, leb, length, get_or, set, length-set, List·getD-eq-default}
+use Rattle.base_laws.proofs.Kit.{ℕ, ◌+◌, ◌-◌, ◌*◌, ◌≤◌, ◌<◌, ◌≡◌, refl, sym, ap, ◌∙◌, ◌≢◌, Bool, true, false, cond, not, and-eq-true_iff, List, [], ◌∷◌, arith, add-zero, ℕ_discrete, eq-eqb, eqb-true, ne_eqb, eqb, length, get_or, set, length-set}
 use Rattle.text_reader.specs.declared.Ended.{Ended}
 use Rattle.text_reader.specs.declared.Ended.TheVariants.{ByTab, ByLineFeed, Neither}
 use Rattle.text_reader.specs.declared.Numbers.{Numbers}
@@ -8,20 +8,12 @@ use Rattle.text_reader.specs.Field.{digit, largest}
 use Rattle.text_reader.specs.Lines.{no_letter}
 use Rattle.text_reader.specs.Reading.{number_until, field_at, separator, rest_at, starts_with, tab_before_sentinel, if_ended, DigitsRead, EndsAs, tabbed_at, GotNumbers, GotNumbersAs}
 use Rattle.text_reader.proofs.Places.{field-stop}
-use Rattle.text_reader.proofs.Turns.{Stored, stored_more, stored-stop, all-feed, all-other, Saying, saying-none, rest-stop, rest-full, rest-not, rest-big, rest_more, rest-empty, tabbed-other, tabbed-empty, tabbed-some, digit_low, as_own}
+use Rattle.text_reader.proofs.Turns.{byte-within, Stored, stored_more, stored-stop, all-feed, all-other, Saying, saying-none, rest-stop, rest-full, rest-not, rest-big, rest-turn, rest-empty, tabbed-other, tabbed-empty, tabbed-some, digit_low, as_own}
 use Rattle.std.specs.Prelude.{Option, Some, None}
 use Rattle.text_reader.specs.declared.FieldNumber.{FieldNumber}
 
--- a byte that is not 0 stands within the text
-pub byte-within : (text : List ℕ) (i b : ℕ) → get_or text i 0 ≡ suc b → i < length text
-byte-within text i b e = elim (dec_le (length text) i) [ yes h ↦ omega (arith, List·getD-eq-default text 0 h) | no h ↦ omega arith ]
-
 -- ---- whether a tab stands at a place of a text that a line feed ends
 module _ (text : List ℕ) (at : ℕ) where
-  pub sentinel-past : length text ≤ at → false ≡ tab_before_sentinel text at
-  unfolding tab_before_sentinel
-  sentinel-past h = rw (List·getD-eq-default text 0 h)
-
   pub sentinel-other : get_or text at 0 ≢ 9 → eqb (get_or text at 0) 9 ≡ tab_before_sentinel text at
   unfolding tab_before_sentinel
   sentinel-other n = rw (ne_eqb (get_or text at 0) 9 n)
@@ -87,20 +79,15 @@ module _ (text : List ℕ) (from k v : ℕ) (run : Run text from k v) where
           within = λ number q. (let it : number_until v (from + k) ≡ number = cc in rw (sym it) run.inside);
         }
 
-    module _ (t : not r ≡ false) (f : Bool) (g : f ≡ leb (v * 10 + (b - 48)) largest) where
-      pub run-big : not f ≡ true → DigitsRead text from None
+    module _ (t : not r ≡ false) where
+      pub run-big : (v * 10 + (b - 48) ≤ largest → ⊥) → DigitsRead text from None
       unfolding if_ended
-      run-big u = record { says = rest-big text from (10 - k) v (from + k) run.saying run.inside b same r e t f g u; within = λ number q. (let z : ◌≡◌ {A = ℕ} 0 1 = cc in absurd (omega arith)) }
+      run-big u = record { says = rest-big text from (10 - k) v (from + k) run.saying run.inside b same r e t u; within = λ number q. (let z : ◌≡◌ {A = ℕ} 0 1 = cc in absurd (omega arith)) }
 
-      pub run_more : (w : ℕ) → k < 10 → get_or text (length text - 1) 0 ≡ 10 → not f ≡ false → w ≡ v * 10 + (b - 48) → Run text from (k + 1) w
+      pub run_more : (w : ℕ) → k < 10 → get_or text (length text - 1) 0 ≡ 10 → v * 10 + (b - 48) ≤ largest → w ≡ v * 10 + (b - 48) → Run text from (k + 1) w
       run_more w h last u a =
-          let place : from + k + 1 ≡ from + (k + 1) = omega arith in
           let on = goes_on text (from + k) last run.inside (λ z. omega (arith, digit_low b r e t)) in
-          record {
-            few = omega arith;
-            inside = omega arith;
-            saying = rw place at (rest_more text from (10 - k) v (from + k) run.saying run.inside b same r e t f g (10 - (k + 1)) w (omega arith) u a);
-          }
+          record { few = omega arith; inside = omega arith; saying = rest-turn text from k v run.saying run.inside b same r e t h u a }
 
 -- ---- what ends the field after a tab, by the digits found there
 module _ (text : List ℕ) (at : ℕ) (tab : get_or text at 0 ≡ 9) (r : Option FieldNumber) (d : DigitsRead text (at + 1) r) where
@@ -173,7 +160,7 @@ ended-feed text t r number e g = byte-within text number.next 9 (rw g at e).1
 
 module _ (text : List ℕ) (at : ℕ) (out₀ out : List ℕ) (i k : ℕ) (inv : Stored text at out₀ out i k) where
   pub all-tab : length out₀ ≤ k → get_or text i 0 ≡ 9 → GotNumbers text at out₀ More out
-  all-tab h t = all-other text at out₀ out i k inv h (byte-within text i 8 t) (λ z. omega arith)
+  all-tab h t = all-other text at out₀ out i k inv h (λ z. omega arith)
 
   module _ (r : Ended) (h : k < length out₀) (e : EndsAs text (tabbed_at text i) r) where
     pub ended-stop : r ≡ Neither → GotNumbers text at out₀ Missing out
@@ -195,7 +182,7 @@ module _ (text : List ℕ) (at : ℕ) (out₀ out : List ℕ) (i k : ℕ) (inv :
         last = let one = rw g at e in stored_more text at out₀ out i k inv (Some number) number h (sym one.0) refl
 
         pub feed-all : k + 1 ≡ length (set out k number.value) → GotNumbers text at out₀ (Last (number.next + 1)) (set out k number.value)
-        feed-all n = all-feed text at out₀ (set out k number.value) number.next (k + 1) last (omega (arith, length-set out k number.value)) (byte-within text number.next 9 feed) feed
+        feed-all n = all-feed text at out₀ (set out k number.value) number.next (k + 1) last (omega (arith, length-set out k number.value)) feed
 
         pub feed-early : k + 1 ≢ length (set out k number.value) → GotNumbers text at out₀ Missing (set out k number.value)
         feed-early n =

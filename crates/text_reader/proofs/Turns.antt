@@ -1,5 +1,5 @@
 -- The laws of the functions that go by places, each in the form of a need: what a loop's head, the tests and the calls say gives what is asked.
-use Rattle.base_laws.proofs.Kit.{ℕ, suc, ◌+◌, ◌-◌, ◌*◌, ◌≤◌, ◌<◌, ◌≡◌, refl, sym, ap, ◌∙◌, ◌≢◌, Bool, true, false, cond, not, ◌&&◌, and-false, and-eq-true_iff, List, [], ◌∷◌, arith, ℕ_discrete, eq-eqb, ne_eqb, eqb-true, eqb-false, le-leb, lt-leb, leb-true, leb-false, not-true, not-false, eqb, leb, eqb·suc-zero, length, drop, get_or, set, drop_of_length-le, List·getD-eq-default, drop-cons}
+use Rattle.base_laws.proofs.Kit.{ℕ, suc, ◌+◌, ◌-◌, ◌*◌, ◌≤◌, ◌<◌, ◌≡◌, refl, sym, ap, ◌∙◌, ◌≢◌, Bool, true, false, cond, not, ◌&&◌, and-false, and-true, and-eq-true_iff, List, [], ◌∷◌, arith, ℕ_discrete, dec_le, eq-eqb, ne_eqb, eqb-true, eqb-false, lt-leb, leb-true, leb-false, not-true, not-false, eqb, leb, eqb·suc-zero, length, drop, get_or, set, drop_of_length-le, List·getD-eq-default, drop-cons}
 use Rattle.text_reader.specs.declared.Numbers.{Numbers}
 use Rattle.text_reader.specs.declared.Numbers.TheVariants.{Last, More, Missing}
 use Rattle.text_reader.specs.Field.{digit, largest, field_of}
@@ -13,6 +13,10 @@ use Rattle.text_reader.proofs.Numerals.{digit-bounds, worth-end, worth-not, wort
 use Rattle.text_reader.proofs.Places.{line-letter, field_past, field-more, field-stop, field-goes, field-some, end_of, start-reads, found-reads, found-stops, absent-reads, done-past, done-feed, done-other}
 use Rattle.std.specs.Prelude.{Option, Some, None}
 use Rattle.text_reader.specs.declared.FieldNumber.{FieldNumber}
+
+-- a byte that is not 0 stands within the text
+pub byte-within : (text : List ℕ) (i b : ℕ) → get_or text i 0 ≡ suc b → i < length text
+byte-within text i b e = elim (dec_le (length text) i) [ yes h ↦ omega (arith, List·getD-eq-default text 0 h) | no h ↦ omega arith ]
 
 -- ---- the end of a field
 module _ (text : List ℕ) (at : ℕ) where
@@ -30,24 +34,6 @@ module _ (b : ℕ) (r : Bool) (e : r ≡ digit b) (t : not r ≡ false) where
 
   pub digit-high : b ≤ 57
   digit-high = (digit-bounds b (sym e ∙ not-false r t)).1
-
-pub has_room : (n : ℕ) (f : Bool) → f ≡ leb n largest → not f ≡ false → n ≤ largest
-has_room n f e t = leb-true n largest (sym e ∙ not-false f t)
-
--- whether v has room for one digit more
-module _ (v b : ℕ) (h : b ≤ 57) where
-  pub room_small : v < 429496729 → true ≡ leb (v * 10 + (b - 48)) largest
-  room_small l = sym (le-leb (v * 10 + (b - 48)) largest (omega arith))
-
-  pub room-large : 429496729 < v → false ≡ leb (v * 10 + (b - 48)) largest
-  room-large l = sym (lt-leb (v * 10 + (b - 48)) largest (omega arith))
-
-  pub room-last : 429496729 ≤ v → v ≤ 429496729 → leb b 53 ≡ leb (v * 10 + (b - 48)) largest
-  room-last l m = by (leb b 53) refl
-    where
-      by : (t : Bool) → leb b 53 ≡ t → t ≡ leb (v * 10 + (b - 48)) largest
-      by true e = let n = leb-true b 53 e in sym (le-leb (v * 10 + (b - 48)) largest (omega arith))
-      by false e = let n = leb-false b 53 e in sym (lt-leb (v * 10 + (b - 48)) largest (omega arith))
 
 -- ---- the digits of a field from i on, after digits that say v, where n more may come
 pub record Saying (text : List ℕ) (from n v i : ℕ) : Type 0 where
@@ -87,21 +73,24 @@ module _ (text : List ℕ) (from n v i : ℕ) (inv : Saying text from n v i) whe
     goes : field_at text i ≡ b ∷ field_at text (i + 1)
     goes = rw same (field-more text i h (λ z. omega (arith, digit_low b r e t)) (λ z. omega (arith, digit_low b r e t)))
 
-    module _ (f : Bool) (g : f ≡ leb (v * 10 + (b - 48)) largest) where
-      pub rest-big : not f ≡ true → None ≡ rest_at 10 0 text from
-      rest-big u = absent (rw goes (worth-over n v _ _ (leb-false _ largest (sym g ∙ not-true f u))))
+    pub rest-big : (v * 10 + (b - 48) ≤ largest → ⊥) → None ≡ rest_at 10 0 text from
+    rest-big u = absent (rw goes (worth-over n v _ _ (elim (dec_le (v * 10 + (b - 48)) largest) [ yes h ↦ absurd (u h) | no h ↦ omega arith ])))
 
-      pub rest_more : (m w : ℕ) → n ≡ suc m → not f ≡ false → w ≡ v * 10 + (b - 48) → Saying text from m w (i + 1)
-      unfolding rest_at
-      rest_more m w d u a =
-          let end : end_of text i ≡ end_of text (i + 1) = omega (arith, ap length goes) in
-          record {
-            small = omega (arith, has_room (v * 10 + (b - 48)) f g u);
-            same = inv.same ∙ rw (end, goes, d, worth-more m v b (field_at text (i + 1)) (sym e ∙ not-false r t), a);
-          }
+    pub rest_more : (m w : ℕ) → n ≡ suc m → v * 10 + (b - 48) ≤ largest → w ≡ v * 10 + (b - 48) → Saying text from m w (i + 1)
+    unfolding rest_at
+    rest_more m w d u a =
+        let end : end_of text i ≡ end_of text (i + 1) = omega (arith, ap length goes) in
+        record {
+          small = omega arith;
+          same = inv.same ∙ rw (end, goes, d, worth-more m v b (field_at text (i + 1)) (sym e ∙ not-false r t), a);
+        }
 
-      pub rest-turn : (w : ℕ) → n ≢ 0 → not f ≡ false → w ≡ v * 10 + (b - 48) → Saying text from (n - 1) w (i + 1)
-      rest-turn w z = rest_more (n - 1) w (omega arith)
+-- the next of ten digits
+module _ (text : List ℕ) (from k v : ℕ) (inv : Saying text from (10 - k) v (from + k)) (h : from + k < length text) (b : ℕ) (same : b ≡ get_or text (from + k) 0) (r : Bool) (e : r ≡ digit b) (t : not r ≡ false) where
+  pub rest-turn : {w : ℕ} → k < 10 → v * 10 + (b - 48) ≤ largest → w ≡ v * 10 + (b - 48) → Saying text from (10 - (k + 1)) w (from + (k + 1))
+  rest-turn {w} l u a =
+      let place : from + k + 1 ≡ from + (k + 1) = omega arith in
+      rw place at (rest_more text from (10 - k) v (from + k) inv h b same r e t (10 - (k + 1)) w (omega arith) u a)
 
 -- an empty field
 pub rest-empty : (text : List ℕ) (at : ℕ) → field_at text at ≡ [] → Some (number_until 0 at) ≡ rest_at 10 0 text at
@@ -146,18 +135,18 @@ no-letter (b ∷ c ∷ bs) h = refl
 
 -- whether a letter stands at a place
 module _ (text : List ℕ) (at letter : ℕ) where
-  pub starts-past : length text ≤ at → false ≡ starts_with letter text at
+  pub starts-here : (not (leb (length text) at) && eqb (get_or text at 0) letter) ≡ true → {s : Bool} → s ≡ separator letter → not s ≡ starts_with letter text at
   unfolding starts_with
-  starts-past h = rw (le-leb (length text) at h)
+  starts-here h {s} e = let two = (and-eq-true_iff (not (leb (length text) at)) (eqb (get_or text at 0) letter)).0 h in rw (two.0, two.1, ← e) (sym (and-true (not s)))
 
-  module _ (h : at < length text) (s : Bool) (q : s ≡ separator letter) where
-    pub starts-separator : s ≡ true → false ≡ starts_with letter text at
-    unfolding starts_with
-    starts-separator t = rw (← q, t, and-false)
-
-    pub starts_test : s ≡ false → eqb (get_or text at 0) letter ≡ starts_with letter text at
-    unfolding starts_with
-    starts_test t = rw (← q, t, lt-leb (length text) at h)
+  pub starts-elsewhere : (not (leb (length text) at) && eqb (get_or text at 0) letter) ≡ false → false ≡ starts_with letter text at
+  unfolding starts_with
+  starts-elsewhere = go (not (leb (length text) at)) (eqb (get_or text at 0) letter) (not (separator letter))
+    where
+      go : (a b c : Bool) → (a && b) ≡ false → false ≡ ((a && c) && b)
+      go false b c h = refl
+      go true b true h = sym h
+      go true b false h = refl
 
 module _ (text : List ℕ) (at letter : ℕ) where
   -- a field of one byte is that byte
@@ -262,14 +251,11 @@ module _ (text : List ℕ) (at : ℕ) (out₀ out : List ℕ) (i k : ℕ) (inv :
     unfolding leading
     all r e = filled-all (numbers_from text) (answer_from text) at out₀ out i k inv.filled r h (refl, e)
 
-    pub all_past : length text ≤ i → GotNumbers text at out₀ More out
-    all_past p = all More (done-past text i p)
+    pub all-feed : get_or text i 0 ≡ 10 → GotNumbers text at out₀ (Last (i + 1)) out
+    all-feed f = all (Last (i + 1)) (done-feed text i (byte-within text i 9 f) f)
 
-    pub all-feed : i < length text → get_or text i 0 ≡ 10 → GotNumbers text at out₀ (Last (i + 1)) out
-    all-feed p f = all (Last (i + 1)) (done-feed text i p f)
-
-    pub all-other : i < length text → get_or text i 0 ≢ 10 → GotNumbers text at out₀ More out
-    all-other p f = all More (done-other text i inv.stops p f)
+    pub all-other : get_or text i 0 ≢ 10 → GotNumbers text at out₀ More out
+    all-other f = elim (dec_le (length text) i) [ yes p ↦ all More (done-past text i p) | no p ↦ all More (done-other text i inv.stops (omega arith) f) ]
 
 -- ---- the numbers of a line of a letter
 module _ (letter : ℕ) (text : List ℕ) (at : ℕ) (old : List ℕ) (l : letter < no_letter) where
@@ -347,11 +333,13 @@ module _ (letter : ℕ) (text : List ℕ) (at : ℕ) (old out : List ℕ) (m : N
   pub missing-line : m ≡ Missing → GotLine letter text at old None out
   missing-line g = (both Missing g).0
 
-  pub last-head : (next : ℕ) → m ≡ Last next → GotHead letter text at old true out
-  last-head next g = (both (Last next) g).1
-
-  pub more-head : m ≡ More → GotHead letter text at old true out
-  more-head g = (both More g).1
+  pub head-told : (m ≡ Missing → ⊥) → GotHead letter text at old true out
+  head-told n = go m refl
+    where
+      go : (v : Numbers) → m ≡ v → GotHead letter text at old true out
+      go (Last next) g = (both (Last next) g).1
+      go More g = (both More g).1
+      go Missing g = absurd (n g)
 
   pub missing-head : m ≡ Missing → GotHead letter text at old false out
   missing-head g = (both Missing g).1

@@ -1,35 +1,56 @@
-use Rattle.std.proofs.Common.{rules, ◌≡◌, length, arith}
-use Rattle.text_reader.proofs.Turns.{saying-none, rest-past, rest-stop, rest-full, rest-not, rest-big, rest-turn, digit_low, digit-high, has_room}
+use Rattle.std.proofs.Common.{◌∙◌, ap, arith}
+use Rattle.base_laws.proofs.Kit.{add-zero}
+use Rattle.text_reader.specs.Field.{digit}
+use Rattle.text_reader.specs.Reading.{separator}
+use Rattle.text_reader.proofs.Looks.{tail-size, tail-byte, tail_within}
+use Rattle.text_reader.proofs.Turns.{saying-none, rest-past, rest-stop, rest-full, rest-not, rest-big, rest-turn, digit_low, digit-high}
 use Rattle.text_reader.proofs.digits_from.Goals as goal
+use Rattle.text_reader.proofs.digits_from.Goals.{then-k-eq10-via-then-k-eq10, then-k-eq10-via-else-k-eq10+then-not-is_ascii_digit}
 
-pub loop-i-init : goal.loop-i-init
-loop-i-init c = search (saying-none, rules)
+pub loop-k-init : goal.loop-k-init
+loop-k-init c = (omega arith, rw add-zero (saying-none c.args.text.now c.args.from))
 
 pub returns-then-is_separator : goal.returns-then-is_separator
-returns-then-is_separator c = search rest-stop
+returns-then-is_separator c =
+    let h = tail_within _ _ _ c.requires c.loop-k-test.true in
+    let byte = tail-byte _ _ _ c.requires c.loop-k-test.true in
+    rest-stop _ _ _ _ _ c.loop-k.invariant.1 h _ (c.is_separator.ensures ∙ ap separator byte) c.if-is_separator.true
 
-pub returns-then-more-eq0 : goal.returns-then-more-eq0
-returns-then-more-eq0 c = search rest-full
+pub returns-then-k-eq10 : goal.returns-then-k-eq10
+unfolding digit
+returns-then-k-eq10 c =
+    let h = tail_within _ _ _ c.requires c.loop-k-test.true in
+    let byte = tail-byte _ _ _ c.requires c.loop-k-test.true in
+    let at = c.is_separator.ensures ∙ ap separator byte in
+    elim c.then-k-eq10.branch [
+      | then-k-eq10-via-then-k-eq10 w ↦ rest-full _ _ _ _ _ c.loop-k.invariant.1 h _ at c.if-is_separator.false (omega (arith, w.if-k-eq10.true))
+      | then-k-eq10-via-else-k-eq10+then-not-is_ascii_digit w ↦
+          rest-not _ _ _ _ _ c.loop-k.invariant.1 h _ at c.if-is_separator.false _ byte _ w.is_ascii_digit.ensures.value w.if-not-is_ascii_digit.true-raw
+    ]
 
-pub returns-then-not-is_digit : goal.returns-then-not-is_digit
-returns-then-not-is_digit c = search rest-not
+pub shifted-requires : goal.shifted-requires
+unfolding digit
+shifted-requires c = rw c.from.ensures (digit_low _ _ c.is_ascii_digit.ensures.value c.if-not-is_ascii_digit.false-raw, digit-high _ _ c.is_ascii_digit.ensures.value c.if-not-is_ascii_digit.false-raw)
 
-pub has_room-requires : goal.has_room-requires
-has_room-requires c = search digit-high
+pub returns-in_err-value : goal.returns-in_err-value
+unfolding digit
+returns-in_err-value c =
+    let h = tail_within _ _ _ c.requires c.loop-k-test.true in
+    let byte = tail-byte _ _ _ c.requires c.loop-k-test.true in
+    rw c.from_residual.ensures
+    (rest-big _ _ _ _ _ c.loop-k.invariant.1 h _ byte _ c.is_ascii_digit.ensures.value c.if-not-is_ascii_digit.false-raw
+    (rw c.from.ensures at c.in_err-value.ensures))
 
-pub returns-then-not-has_room : goal.returns-then-not-has_room
-returns-then-not-has_room c = search rest-big
-
-pub shifted-value-requires-clause-le_b : goal.shifted-value-requires-clause-le_b
-shifted-value-requires-clause-le_b c = search digit_low
-
-pub shifted-value-requires-clause-b_bound : goal.shifted-value-requires-clause-b_bound
-shifted-value-requires-clause-b_bound c = has_room _ _ c.has_room.ensures c.if-not-has_room.false-raw
-
-pub loop-i-preserved : goal.loop-i-preserved
-loop-i-preserved c =
-    rest-turn _ _ _ _ _ c.loop-i.invariant c.loop-i-test.true _ c.from-b.ensures _
-    c.is_digit.ensures c.if-not-is_digit.false-raw _ c.has_room.ensures _ c.if-more-eq0.false c.if-not-has_room.false-raw c.shifted-value.ensures
+pub loop-k-preserved : goal.loop-k-preserved
+unfolding digit
+loop-k-preserved c =
+    let h = tail_within _ _ _ c.requires c.loop-k-test.true in
+    let byte = tail-byte _ _ _ c.requires c.loop-k-test.true in
+    let fits = rw c.from.ensures at c.in_ok-value.ensures in (
+      omega (arith, c.loop-k.invariant.0, c.if-k-eq10.false),
+      rest-turn _ _ _ _ c.loop-k.invariant.1 h _ byte _ c.is_ascii_digit.ensures.value c.if-not-is_ascii_digit.false-raw
+          (omega (arith, c.loop-k.invariant.0, c.if-k-eq10.false)) fits.0 fits.1,
+    )
 
 pub returns : goal.returns
-returns c = let e : c.loop-i.i ≡ length c.args.text.now = omega arith in search rest-past
+returns c = rest-past _ _ _ _ _ c.loop-k.invariant.1 (omega (arith, c.loop-k-test.false, tail-size c.args.text.now c.args.from c.requires))

@@ -1,7 +1,7 @@
--- `text_reader::digits_from` meets its contract. The invariant: what the field says is what its bytes from i on say after `value`, `more` digits at most.
-use Rattle.base_laws.proofs.Kit.{◌-◌, length}
+-- `text_reader::digits_from` meets its contract. The invariant: what the field says is what its bytes behind the first k say after `value`, 10 - k digits at most.
+use Rattle.base_laws.proofs.Kit.{◌+◌, ◌-◌, ◌≤◌}
 use Rattle.text_reader.proofs.Turns.{Saying}
 use Rattle.text_reader.proofs.digits_from.Given as goal
 
-abbrev pub invariant-loop-i : goal.invariant-loop-i
-invariant-loop-i l = Saying l.text l.from l.more l.value l.i
+abbrev pub invariant-loop-k : goal.invariant-loop-k
+invariant-loop-k l = (l.k ≤ 10) × Saying l.text l.from (10 - l.k) l.value (l.from + l.k)

@@ -1,12 +1,10 @@
 -- `text_reader::head_at` meets its contract.
-use Rattle.text_reader.proofs.Turns.{last-head, more-head, missing-head}
+use Rattle.text_reader.proofs.Turns.{head-told, missing-head}
 use Rattle.text_reader.proofs.head_at.Goals as goal
+use Rattle.text_reader.proofs.head_at.Goals.{in-Missing, in_default}
 
-pub returns-in-Last : goal.returns-in-Last
-returns-in-Last c = search last-head
-
-pub returns-in-More : goal.returns-in-More
-returns-in-More c = search more-head
-
-pub returns-in-Missing : goal.returns-in-Missing
-returns-in-Missing c = search missing-head
+pub returns : goal.returns
+returns c = elim c.match-matches.branch [
+  | in-Missing w ↦ rw w.matches-is (missing-head _ _ _ _ _ _ c.numbers_at.ensures w.in-Missing.is)
+  | in_default w ↦ rw w.matches-is (head-told _ _ _ _ _ _ c.numbers_at.ensures w.in_default.not-Missing)
+]

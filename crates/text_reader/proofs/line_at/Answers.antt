@@ -1,4 +1,5 @@
 -- `text_reader::line_at` meets its contract.
+use Rattle.std.proofs.Common.{inl, inr}
 use Rattle.text_reader.proofs.Turns.{last_line, more-line, missing-line}
 use Rattle.text_reader.proofs.line_at.Goals as goal
 
@@ -6,7 +7,4 @@ pub returns-in-Last : goal.returns-in-Last
 returns-in-Last c = search last_line
 
 pub returns-in-More : goal.returns-in-More
-returns-in-More c = search more-line
-
-pub returns-in-Missing : goal.returns-in-Missing
-returns-in-Missing c = search missing-line
+returns-in-More c = elim c.in-More.is [ inl e ↦ more-line _ _ _ _ _ _ c.numbers_at.ensures e | inr e ↦ missing-line _ _ _ _ _ _ c.numbers_at.ensures e ]

@@ -1,5 +1,5 @@
 use Rattle.std.proofs.Common.{rules}
-use Rattle.base_laws.proofs.Kit.{arith, length-set}
+use Rattle.base_laws.proofs.Kit.{arith}
 use Rattle.text_reader.proofs.Turns.{stored-none}
 use Rattle.text_reader.proofs.Sentinel.{all-tab, ended-tab, ended-feed, ended-stop, ended-more, feed-all, feed-early}
 use Rattle.text_reader.proofs.sentinel_numbers_at.Goals as goal
