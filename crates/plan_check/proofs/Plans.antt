@@ -1,5 +1,5 @@
 -- The whole check of a plan.
-use Rattle.base_laws.proofs.Kit.{ℕ, suc, ◌+◌, ◌*◌, ◌≤◌, ◌<◌, ◌≡◌, refl, sym, ap, ◌∙◌, true, false, List, add-one, le-leb, lt-leb, leb, length}
+use Rattle.base_laws.proofs.Kit.{ℕ, suc, ◌+◌, ◌*◌, ◌≤◌, ◌<◌, ◌≡◌, refl, sym, ap, ap₂, ◌∙◌, true, false, List, add-one, le-leb, lt-leb, leb, length}
 use Rattle.base_search.specs.declared.Refusal.{Refusal}
 use Rattle.base_search.specs.Checks.{refusal, verdict}
 use Rattle.base_search.proofs.Laws.{passes-of-hold, or-else-passes, or-else-refused, checked-passes, checked_refused}
@@ -16,13 +16,10 @@ use Rattle.model.proofs.Rows.{written_none}
 use Rattle.model.proofs.Written.{refused-fails, rows_none}
 use Rattle.model.proofs.Promises.{promises}
 use Rattle.model.proofs.Hold.{empty_holds}
-use Rattle.network_tables.specs.declared.Link.{Link}
-use Rattle.network_tables.specs.declared.Movement.{Movement}
+use Rattle.network_tables.specs.declared.NetworkTables.{NetworkTables}
 use Rattle.network_tables.specs.declared.Reading.{Reading}
-use Rattle.network_tables.specs.Tables.{Judged}
-use Rattle.network_tables.proofs.Stages.{verdict-refused}
-use Rattle.network.specs.Loading.{Loaded}
-use Rattle.plan_steps.specs.Steps.{RunGot}
+use Rattle.network.specs.Loading.{TablesLoaded}
+use Rattle.plan_steps.specs.Steps.{RunAsked, RunGot}
 use Rattle.plan_check.specs.Plan.{PlanGot}
 use Rattle.std.specs.Prelude.{Result, Ok, Err}
 use Rattle.model.specs.declared.Totals.{Totals}
@@ -49,8 +46,13 @@ module _ (network plan : List Line) (size : ℕ) where
     unfolding verdict plan_checks ledger_checks
     plan-lines room = or-else-passes _ _ valid ∙ or-else-passes _ _ (checked-passes _ 8 0 0 room)
 
-module _ {network_text : List ℕ} (plan_text : List ℕ) {signals : List Signal} {links : List Link} {movements : List Movement} {times : List ℕ} {reading : Reading} (old : List ℕ)
-    (loaded : Loaded network_text signals links movements times reading) where
+module _ (tables : NetworkTables) (plan_text : List ℕ) {signals : List Signal} (old : List ℕ) (loaded : TablesLoaded tables signals) where
+  abbrev network_text : List ℕ
+  network_text = tables.text.now
+
+  abbrev reading : Reading
+  reading = tables.reading
+
   abbrev net : List Line
   net = lines network_text
 
@@ -61,19 +63,30 @@ module _ {network_text : List ℕ} (plan_text : List ℕ) {signals : List Signal
   valid = passes-of-hold (network_checks net) loaded.holds
 
   needed : 2 * (reading.counts.steps + 1) * reading.counts.links ≡ 2 * suc (step_count net) * link_count net
-  needed = rw (loaded.counted.steps, loaded.counted.links, add-one)
+  needed = ap₂ (λ s l. 2 * s * l) (add-one reading.counts.steps ∙ ap suc loaded.counted.steps) loaded.counted.links
 
   -- the ledger is too short
-  pub plan-short : length old < 2 * (reading.counts.steps + 1) * reading.counts.links → PlanGot network_text plan_text old (Err (refusal 8 0 0)) old
-  plan-short h =
-      let short = lt-leb _ _ (rw needed at h) in
+  pub plan-short : {room : ℕ} → room ≡ 2 * (reading.counts.steps + 1) * reading.counts.links → length old < room → PlanGot network_text plan_text old (Err (refusal 8 0 0)) old
+  plan-short start h =
+      let short = lt-leb _ _ (rw (start ∙ needed) at h) in
       let e = early net pln old (refusal 8 0 0) (λ d. refused-fails (ledger_checks net (length old)) (refusal 8 0 0) (ledger-refused net pln (length old) short) d.ledger-holds)
       (ledger-short net pln (length old) valid short) in
       record { answered = e.0; written-rows = e.1 }
 
-  module _ (h : 2 * (reading.counts.steps + 1) * reading.counts.links ≤ length old) where
+  module _ {size : ℕ} (start : size ≡ 2 * (reading.counts.steps + 1) * reading.counts.links) (h : size ≤ length old) where
     room : 2 * suc (step_count net) * link_count net ≤ length old
-    room = rw needed at h
+    room = rw (start ∙ needed) at h
+
+    pub run-asked : RunAsked plan_text tables signals old
+    run-asked =
+        record {
+          tables = record { holds = loaded.holds; counted = loaded.counted; link-table = loaded.link-table; movement-table = loaded.movement-table; time-table = loaded.time-table };
+          trams-start = loaded.trams-start;
+          signal-table = loaded.signal-table;
+          past-start = loaded.past-start;
+          steps-start = loaded.steps-start;
+          room = room;
+        }
 
     pub plan_run : {answer : (Result Totals Refusal)} {after : List ℕ} → RunGot network_text plan_text old answer after → PlanGot network_text plan_text old answer after
     plan_run got =
@@ -88,11 +101,9 @@ planned : (network plan : List Line) (size : ℕ) (r : Refusal) → verdict (net
 unfolding verdict plan_checks
 planned network plan size r v = or-else-refused _ _ r v
 
-pub plan-refused : (network_text plan_text old : List ℕ) {stage : (Result Reading Refusal)} {Held : Reading → Type 0} {r : Refusal} → Judged (network_checks (lines network_text)) Held stage → stage ≡ Err r
-    → PlanGot network_text plan_text old (Err r) old
-plan-refused network_text plan_text old {r = r} got e =
+pub plan-refused : (network_text plan_text old : List ℕ) {r : Refusal} → verdict (network_checks (lines network_text)) ≡ Err r → PlanGot network_text plan_text old (Err r) old
+plan-refused network_text plan_text old {r} v =
     let net = lines network_text in
-    let v = verdict-refused got e in
     let p = early net (plan_of network_text plan_text) old r (λ d. refused-fails (network_checks net) r v d.network-holds) (planned net (plan_of network_text plan_text) (length old) r v) in
     record { answered = p.0; written-rows = p.1 }
 

@@ -129,8 +129,8 @@ module _ {run : Run} {place : Place} {signals : List Signal} {lent : Lines} (ask
             }
 
 -- a table of zeros has no other number, at any place
-pub no_number : (n k : ℕ) → ◌≡◌ {A = ℕ} (get_or (replicate n 0) k 0) 0
-no_number n k = elim (dec_lt k n) [
+pub zero-at : (n k : ℕ) → ◌≡◌ {A = ℕ} (get_or (replicate n 0) k 0) 0
+zero-at n k = elim (dec_lt k n) [
   | yes h ↦ get_or-replicate {A = ℕ} n k 0 0 h
   | no h ↦ List·getD-eq-default (replicate n 0) 0 (omega (arith, length-replicate {A = ℕ} n 0))
 ]

@@ -28,6 +28,7 @@ use Rattle.step_rows.specs.Step.{StepHolds}
 use Rattle.step_rows.specs.Waiting.{AddAsked, Offers, StepOffers, Waits, WaitingTable}
 use Rattle.step_rows.proofs.Fit.{step-fit}
 use Rattle.step_rows.proofs.Texts.{movements-named, next-row-fits, next-row-holds, next-row-front}
+use Rattle.step_rows.proofs.Cuts.{offers-cut}
 use Rattle.step_rows.proofs.Ledger.{part-holds, next-written}
 use Rattle.step_rows.proofs.WaitingTexts.{outside-is, add-ready, step-offers, next-ready, waiting-next}
 use Rattle.step_limits.specs.Limits.{LimitsKept}
@@ -41,6 +42,7 @@ use Rattle.plan_steps.specs.declared.Run.{Run}
 use Rattle.plan_steps.specs.Reading.{LinesLent, ReadAsked, LinesRead, ReadGot}
 use Rattle.plan_steps.specs.State.{StateAt, NextAsked, NextGot, StepAsked, StepGot}
 use Rattle.plan_steps.proofs.Adding.{passed-lawful, totals-asked, totals-next}
+use Rattle.plan_steps.proofs.Fronts.{front}
 use Rattle.plan_steps.proofs.Ledger.{written-again}
 use Rattle.plan_steps.proofs.Steps.{signals-next}
 use Rattle.plan_steps.proofs.Verdicts.{line-malformed, line-formed}
@@ -123,13 +125,17 @@ module _ {run : Run} {state : State} {signals : List Signal} {arrivals : List Ar
     read : LinesRead network_text plan_text state.place place read-off
     read = rw some at got.outcome
 
-    pub add-asked : AddAsked counts.links waiting read-off.step
-    add-asked = add-ready counted asked.tables.holds asked.more asked.state-at.waiting-at read.step-numbers
+    -- those who wait are added for the links that there are
+    pub add-asked : AddAsked (take counts.links waiting) read-off.step
+    add-asked = rw (front waiting counts.links) (add-ready counted asked.tables.holds asked.more asked.state-at.waiting-at read.step-numbers)
 
-    -- those who wait are added, and the arrivals moved on
-    module _ {step' : List ℕ} (added : Offers counts.links waiting read-off.step step') {arrivals' : List Arrival} (moved : PastNextGot tables (counts.past + n + 1) arrivals') where
+    -- they are added, and the arrivals moved on
+    module _ {step' : List ℕ} (waited : Offers (length (take counts.links waiting)) (take counts.links waiting) read-off.step step') {arrivals' : List Arrival} (moved : PastNextGot tables (counts.past + n + 1) arrivals') where
       abbrev said : Lines
       said = record { step = step'; plan = read-off.plan; phases = read-off.phases; asked = read-off.asked }
+
+      added : Offers counts.links waiting read-off.step step'
+      added = offers-cut waiting counts.links (omega (arith, asked.state-at.waiting-at.size, counted.few.links)) (rw (front waiting counts.links) at waited)
 
       offers : StepOffers net pln n step'
       offers = step-offers counted asked.state-at.waiting-at read.step-numbers added
@@ -244,13 +250,16 @@ module _ {run : Run} {state : State} {signals : List Signal} {arrivals : List Ar
                         asked.state-at.outside-at (outside-is counted (waiting-at stay)) read.plan-numbers offers;
                   }
 
-              module _ {waiting' ledger' : List ℕ} {signals' : List Signal} {next : State} {start : ℕ} (starts : start ≡ 2 * (n + 1) * counts.links)
-                  (wrote : ledger' ≡ take start ledger ++ (take (2 * counts.links) row' ++ drop (start + 2 * counts.links) ledger))
+              module _ {waiting' ledger' : List ℕ} {signals' : List Signal} {next : State} (kept : length row' ≡ length row) {start : ℕ} (starts : start ≡ 2 * (n + 1) * counts.links)
+                  (wrote : ledger' ≡ take start ledger ++ (take (2 * counts.links) row' ++ drop (start + length (take (2 * counts.links) row')) ledger))
                   (on : NextGot (record { place = place; totals = state.totals; outside = state.outside }) said counts signals signals' waiting' next) where
+                wide : length (take (2 * counts.links) row') ≡ 2 * counts.links
+                wide = length-take-le (2 * counts.links) row' (omega (arith, kept, row-size, counted.few.links))
+
                 rows_written : ledger' ≡ written net pln ledger (suc (suc n))
                 rows_written =
                     next-written net pln ledger row' (suc n) asked.state-at.rows (next-row-front at.counted at.numbers at.movement-table before (drop (2 * step.counts.links) row) (judged.made passes))
-                    (rw (starts, counted.links, add-one) at wrote)
+                    (rw (starts, wide, counted.links, add-one) at wrote)
 
                 passed-more : (m : ℕ) → m < suc n → verdict (line_checks net pln m) ≡ Ok tt
                 passed-more m l = elim (dec_le n m) [

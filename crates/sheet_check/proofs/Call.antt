@@ -1,5 +1,5 @@
 -- All steps of an accepted plan, and the whole call.
-use Rattle.base_laws.proofs.Kit.{ℕ, zero, suc, ◌≤◌, ◌<◌, ◌≡◌, refl, sym, ap, ap₂, ◌∙◌, cond, List, arith, length, replicate, length-replicate, get_or-replicate}
+use Rattle.base_laws.proofs.Kit.{ℕ, zero, suc, ◌≤◌, ◌<◌, ◌≡◌, refl, sym, ap, ap₂, ◌∙◌, cond, List, arith, length, take, length-take-le, get_or-take, replicate, length-replicate, get_or-replicate}
 use Rattle.base_search.specs.declared.Refusal.{Refusal}
 use Rattle.base_search.specs.Checks.{Checks, ◌then◌, or_else, verdict, Hold, Verdict}
 use Rattle.base_search.proofs.Laws.{or-else-passes, or-else-refused, hold-of-passes, passes-of-hold}
@@ -9,25 +9,23 @@ use Rattle.text_reader.proofs.Padding.{same_lines}
 use Rattle.text_reader.proofs.Laws.{starts_first}
 use Rattle.model.specs.declared.Totals.{Totals}
 use Rattle.model.specs.declared.Signal.{Signal}
-use Rattle.model.specs.Network.{max_trams, signal_count, step_count}
+use Rattle.model.specs.Network.{max_signals, max_trams, signal_count, step_count}
 use Rattle.model.specs.Table.{network_checks, ledger_checks, plan_line_checks, plan_checks}
 use Rattle.model.specs.Hold.{plan_of}
 use Rattle.model.specs.Calls.{plan_answer, check_plan}
 use Rattle.model.proofs.Accepted.{valid-network}
 use Rattle.model.proofs.Promises.{passes-of-accepted, refused-of-refused}
-use Rattle.network_tables.specs.declared.Reading.{Reading}
+use Rattle.network_tables.specs.declared.NetworkTables.{NetworkTables}
 use Rattle.network_tables.specs.declared.Tram.{Tram}
-use Rattle.network_tables.specs.declared.Link.{Link}
-use Rattle.network_tables.specs.declared.Movement.{Movement}
-use Rattle.network_tables.specs.Tables.{SignalTable, Judged}
-use Rattle.network_trams.specs.Claims.{LoadAsked as TramsLoadAsked}
-use Rattle.network_tables.proofs.Stages.{verdict-refused}
-use Rattle.network.specs.Loading.{Loaded}
+use Rattle.network_tables.specs.Tables.{TramTable}
+use Rattle.network_trams.specs.Claims.{LoadAsked}
+use Rattle.network.specs.Loading.{TablesLoaded}
+use Rattle.plan_steps.specs.declared.Run.{Run}
 use Rattle.plan_steps.proofs.Runs.{signals-first}
 use Rattle.plan_steps.proofs.Steps.{trams-ready}
 use Rattle.plan_check.specs.Plan.{PlanGot}
 use Rattle.sheet_lines.specs.Sheet.{sheet_checks}
-use Rattle.sheet_lines.specs.Reading.{sheet_table_size, SheetAsked, SheetRead}
+use Rattle.sheet_lines.specs.Reading.{SheetAsked, SheetRead}
 use Rattle.sheet_lines.proofs.Network.{sheet-asked, sheet-told, sheet-number}
 use Rattle.model_sheet.specs.Runs.{is_tested, last_line, found, earlier, least_line, least_item, pass_verdict, run_checks}
 use Rattle.model_sheet.specs.Calls.{accept_checks, keep_checks, check_sheet, rows_after, sheet_ledger}
@@ -38,12 +36,12 @@ use Rattle.model_sheet.proofs.Promises.{sheet-promises}
 use Rattle.sheet_check.specs.declared.Watch.{Watch}
 use Rattle.sheet_check.specs.declared.Pass.{Pass}
 use Rattle.sheet_check.specs.Watch.{no_watch, watch_in, watch_at}
-use Rattle.sheet_check.specs.Stages.{PassAsked, SheetIn, PassAt, PassWatches, PassGot}
+use Rattle.sheet_check.specs.Stages.{PassAsked, SheetIn, PassAt, PassWatches, StepAsked, StepGot, PassGot}
 use Rattle.std.specs.Prelude.{Result, Ok, Err}
 
 -- ---- the pass
 -- while steps are left
-pub record Passing (network_text plan_text table : List ℕ) (pass : Pass) (signals : List Signal) : Type 0 where
+pub record Passing (network_text plan_text : List ℕ) (table : List (List ℕ)) (pass : Pass) (signals : List Signal) : Type 0 where
   pub at : PassAt network_text plan_text pass signals
   pub watched : PassWatches network_text plan_text table pass
 
@@ -55,51 +53,79 @@ least-same f g (suc n) h =
     let e = h n (omega arith) in
     (ap₂ (λ x y. cond (earlier x y) x y) e ih.0, ap₂ (λ b y. cond b (suc n) y) (ap₂ earlier e ih.0) ih.1)
 
-module _ {network_text plan_text table : List ℕ} {reading : Reading} (asked : PassAsked network_text plan_text table reading) where
+module _ {plan_text : List ℕ} {tables : NetworkTables} {table : List (List ℕ)} {signals₀ : List Signal} (asked : PassAsked plan_text tables table signals₀) where
+  abbrev network_text : List ℕ
+  network_text = tables.text.now
+
   abbrev net : List Line
   net = lines network_text
 
   abbrev pln : List Line
   pln = plan_of network_text plan_text
 
-  pub passing-first : {signals : List Signal} → SignalTable net signals
-      → Passing network_text plan_text table (record { boundary = 0; time = 0; step_at = reading.steps_at; plan_at = 0; watches = replicate 8 no_watch }) signals
+  pub passing-first : Passing network_text plan_text table (record { place = record { boundary = 0; step_at = tables.reading.steps_at; plan_at = 0 }; time = 0; watches = replicate 8 no_watch }) signals₀
   unfolding watch_at is_tested last_line found
-  passing-first {signals} t =
+  passing-first =
       record {
         at = record {
           within = omega arith;
           time-is = sym (time-zero net);
-          step-starts = asked.network-held.steps-start;
-          plan-starts = λ h. starts_first plan_text;
-          signals-at = signals-first net pln signals (valid-network net asked.network-held.holds) t;
+          at = record { step-starts = asked.loaded.steps-start; plan-starts = λ h. starts_first plan_text };
+          signals-at = signals-first net pln signals₀ (valid-network net asked.loaded.holds) asked.loaded.signal-table;
           watches-size = length-replicate {A = Watch} 8 no_watch;
         };
         watched = record { watches = λ sheet held. record { size = length-replicate {A = Watch} 8 no_watch; holds = λ r l. first sheet r l } };
       }
     where
       first : (sheet : List Line) (r : ℕ) → r < signal_count net → watch_in (replicate 8 no_watch) r ≡ watch_at net sheet pln 0 r
-      first sheet r l = get_or-replicate {A = Watch} 8 r no_watch no_watch (omega (arith, asked.network-held.counted.signals, asked.network-held.counted.few.signals))
+      first sheet r l = get_or-replicate {A = Watch} 8 r no_watch no_watch (omega (arith, asked.loaded.counted.signals, asked.loaded.counted.few.signals))
 
-  pub trams-asked : {trams : List Tram} → length trams ≡ max_trams → TramsLoadAsked network_text reading.trams_at reading.counts.trams trams
-  trams-asked room = trams-ready network_text reading.trams_at asked.network-held.trams-start asked.network-held.counted asked.network-held.holds room
+  pub trams-asked : {room : List Tram} → length room ≡ max_trams → LoadAsked tables room
+  trams-asked size = trams-ready asked.loaded.trams-start asked.loaded.counted asked.loaded.holds size
+
+  -- one step more, by a run on the same tables and plan
+  pub step-asked : (run : Run) → run.tables.now ≡ tables → run.plan.now ≡ plan_text → TramTable net run.trams.now → {pass : Pass} {signals : List Signal}
+      → Passing network_text plan_text table pass signals → pass.place.boundary < tables.reading.counts.steps → StepAsked run table signals pass
+  step-asked run et ep trams {pass} inv h =
+      let l = asked.loaded in
+      record {
+        tables = rw et (record { holds = l.holds; counted = l.counted; link-table = l.link-table; movement-table = l.movement-table; time-table = l.time-table });
+        tram-table = rw et trams;
+        size = asked.size;
+        widths = asked.widths;
+        lawful = rw (et, ep) asked.lawful;
+        pass-at = rw (et, ep) inv.at;
+        more = rw et (omega (arith, h, l.counted.steps));
+      }
 
   module _ {pass : Pass} {signals : List Signal} (inv : Passing network_text plan_text table pass signals) where
-    pub passing-all : {n : ℕ} → pass.boundary ≡ n → reading.counts.steps ≤ n → {v : Verdict} → v ≡ pass_verdict (λ i. (watch_in pass.watches i).broken) reading.counts.signals
+    pub passing-next : {next : Pass} {signals' : List Signal} → StepGot network_text plan_text table pass next signals' → Passing network_text plan_text table next signals'
+    passing-next got = record { at = got.reached; watched = got.watched inv.watched }
+
+    abbrev broken : ℕ → ℕ
+    broken i = (watch_in (take tables.reading.counts.signals pass.watches) i).broken
+
+    pub watches-few : length (take tables.reading.counts.signals pass.watches) ≡ tables.reading.counts.signals
+    watches-few = length-take-le tables.reading.counts.signals pass.watches (omega (arith, inv.at.watches-size, asked.loaded.counted.few.signals))
+
+    pub passing-all : {n : ℕ} → pass.place.boundary ≡ n → tables.reading.counts.steps ≤ n → {v : Verdict} → v ≡ pass_verdict broken (length (take tables.reading.counts.signals pass.watches))
         → PassGot network_text plan_text table v
     unfolding pass_verdict watch_at
     passing-all at-end h {v} e = record { told = told }
       where
-        end : pass.boundary ≡ step_count net
-        end = omega (arith, inv.at.within, asked.network-held.counted.steps)
+        counted : tables.reading.counts.signals ≡ signal_count net
+        counted = asked.loaded.counted.signals
+
+        end : pass.place.boundary ≡ step_count net
+        end = omega (arith, inv.at.within, asked.loaded.counted.steps)
 
         told : (sheet : List Line) → SheetIn net table sheet → v ≡ verdict (run_checks net sheet pln)
         told sheet held =
-            let s = least-same (λ i. (watch_in pass.watches i).broken) (found net sheet pln (step_count net)) (signal_count net)
-            (λ r l. ap (λ (w : Watch). w.broken) ((inv.watched.watches sheet held).holds r l) ∙ shown sheet r) in
-            e ∙ rw (asked.network-held.counted.signals, s.0, s.1) (sym (one-pass net sheet pln))
+            let s = least-same broken (found net sheet pln (step_count net)) (signal_count net)
+            (λ r l. ap (λ (w : Watch). w.broken) (get_or-take tables.reading.counts.signals pass.watches r no_watch (omega (arith, counted)) ∙ (inv.watched.watches sheet held).holds r l) ∙ shown sheet r) in
+            e ∙ ap (pass_verdict broken) (watches-few ∙ counted) ∙ rw (s.0, s.1) (sym (one-pass net sheet pln))
           where
-            shown : (sheet : List Line) (r : ℕ) → (watch_at net sheet pln pass.boundary r).broken ≡ found net sheet pln (step_count net) r
+            shown : (sheet : List Line) (r : ℕ) → (watch_at net sheet pln pass.place.boundary r).broken ≡ found net sheet pln (step_count net) r
             shown sheet r = ap (λ x. found net sheet pln x r) end
 
 -- ---- on a network that has passed
@@ -134,86 +160,89 @@ module _ (network sheet plan : List Line) (old : List ℕ) where
   first-refused e = promised (keep-is ∙ or-else-refused _ _ _ e) refl (sym (rw e))
 
 -- the network is refused
-pub network-refused : {network sheet plan : List Line} {old : List ℕ} {stage : (Result Reading Refusal)} {Held : Reading → Type 0} → Judged (network_checks network) Held stage → {q : Refusal} → stage ≡ Err q
-    → SheetPromises network sheet plan old old (Err q)
+pub network-refused : {network sheet plan : List Line} {old : List ℕ} {q : Refusal} → verdict (network_checks network) ≡ Err q → SheetPromises network sheet plan old old (Err q)
 unfolding verdict
-network-refused judged e = first-refused _ _ _ _ (or-else-refused _ _ _ (verdict-refused judged e))
+network-refused v = first-refused _ _ _ _ (or-else-refused _ _ _ v)
 
--- it has passed
-pub read_asked : {text : List ℕ} {signals : List Signal} {links : List Link} {movements : List Movement} {times : List ℕ} {reading : Reading} → Loaded text signals links movements times reading
-    → {table : List ℕ} → length table ≡ sheet_table_size → SheetAsked signals reading.counts.signals table
-read_asked {text} loaded l =
-    sheet-asked loaded.signal-table loaded.counted.signals (valid-network (lines text) loaded.holds) loaded.counted.few.signals l
+-- it has passed, and a sheet is read for its signals
+module _ (tables : NetworkTables) {signals : List Signal} (loaded : TablesLoaded tables signals) where
+  abbrev text : List ℕ
+  text = tables.text.now
 
--- a sheet is read for its signals
-module _ {text : List ℕ} {signals : List Signal} {links : List Link} {movements : List Movement} {times : List ℕ} {reading : Reading} (loaded : Loaded text signals links movements times reading)
-    {sheet_text table : List ℕ} {read : Verdict} (got : SheetRead signals reading.counts.signals 0 sheet_text read table) where
-  abbrev network : List Line
-  network = lines text
+  abbrev count : ℕ
+  count = tables.reading.counts.signals
 
-  abbrev sheet : List Line
-  sheet = lines sheet_text
+  pub read_asked : {table : List (List ℕ)} → length table ≡ max_signals → SheetAsked (take count signals) table
+  read_asked l = sheet-asked loaded.signal-table loaded.counted.signals loaded.counted.few.signals (valid-network (lines text) loaded.holds) l
 
-  passes : verdict (network_checks network) ≡ Ok tt
-  passes = passes-of-hold (network_checks network) loaded.holds
+  module _ {sheet_text : List ℕ} {table : List (List ℕ)} {read : Verdict} (got : SheetRead (take count signals) 0 sheet_text read table) where
+    abbrev network : List Line
+    network = lines text
 
-  first-is : verdict (first_checks network sheet) ≡ read
-  unfolding verdict
-  first-is = or-else-passes _ _ passes ∙ sym (sheet-told loaded.signal-table loaded.counted.signals got)
+    abbrev sheet : List Line
+    sheet = lines sheet_text
 
-  pub sheet-refused : {plan : List Line} {old : List ℕ} {q : Refusal} → read ≡ Err q → SheetPromises network sheet plan old old (Err q)
-  sheet-refused e = first-refused network sheet _ _ (first-is ∙ e)
+    passes : verdict (network_checks network) ≡ Ok tt
+    passes = passes-of-hold (network_checks network) loaded.holds
 
-  -- the sheet has passed, and the plan is judged
-  module _ (e : read ≡ Ok tt) {plan_text old : List ℕ} {answer : (Result Totals Refusal)} {after : List ℕ} (judged : PlanGot text plan_text old answer after) where
-    abbrev plan : List Line
-    plan = plan_of text plan_text
+    first-is : verdict (first_checks network sheet) ≡ read
+    unfolding verdict
+    first-is = or-else-passes _ _ passes ∙ sym (sheet-told loaded.signal-table loaded.counted.signals loaded.counted.few.signals got)
 
-    ledger-is : after ≡ sheet_ledger network sheet plan old
-    unfolding sheet_ledger rows_after
-    ledger-is = judged.written-rows ∙ sym (rw (first-is ∙ e))
+    pub sheet-refused : {plan : List Line} {old : List ℕ} {q : Refusal} → read ≡ Err q → SheetPromises network sheet plan old old (Err q)
+    sheet-refused e = first-refused network sheet _ _ (first-is ∙ e)
 
-    rest-is : verdict (plan_checks network plan (length old)) ≡ rest network sheet plan old
-    rest-is = plan-is network sheet plan old ∙ or-else-passes _ _ passes
+    -- the sheet has passed, and the plan is judged
+    module _ (e : read ≡ Ok tt) {plan_text old : List ℕ} {answer : (Result Totals Refusal)} {after : List ℕ} (judged : PlanGot text plan_text old answer after) where
+      abbrev plan : List Line
+      plan = plan_of text plan_text
 
-    kept-is : verdict (keep_checks network sheet plan (length old)) ≡ or_else (rest network sheet plan old) (verdict (run_checks network sheet plan))
-    kept-is = keep-is network sheet plan old ∙ or-else-passes _ _ (first-is ∙ e)
+      ledger-is : after ≡ sheet_ledger network sheet plan old
+      unfolding sheet_ledger rows_after
+      ledger-is = judged.written-rows ∙ sym (rw (first-is ∙ e))
 
-    pub plan-refused : {q : Refusal} → answer ≡ Err q → SheetPromises network sheet plan old after (Err q)
-    unfolding check_plan plan_answer
-    plan-refused {q} g =
-        let v = refused-of-refused network plan (verdict (plan_checks network plan (length old))) q (sym judged.answered ∙ g) in
-        promised network sheet plan old (kept-is ∙ or-else-refused _ _ q (sym rest-is ∙ v)) refl ledger-is
+      rest-is : verdict (plan_checks network plan (length old)) ≡ rest network sheet plan old
+      rest-is = plan-is network sheet plan old ∙ or-else-passes _ _ passes
 
-    -- the plan is accepted, and gone through again
-    module _ {t : Totals} (g : answer ≡ Ok t) where
-      plan-passes : verdict (plan_checks network plan (length old)) ≡ Ok tt
-      plan-passes = (passes-of-accepted network plan (verdict (plan_checks network plan (length old))) t (unfold check_plan in (sym judged.answered ∙ g))).0
+      kept-is : verdict (keep_checks network sheet plan (length old)) ≡ or_else (rest network sheet plan old) (verdict (run_checks network sheet plan))
+      kept-is = keep-is network sheet plan old ∙ or-else-passes _ _ (first-is ∙ e)
 
-      pub pass-asked : PassAsked text plan_text table reading
-      unfolding Hold plan_checks plan_line_checks
-      pass-asked =
-          record {
-            network-held = record { counted = loaded.counted; trams-start = loaded.trams-start; steps-start = loaded.steps-start; holds = loaded.holds };
-            room = (got.held e).room;
-            lawful = (hold-of-passes _ plan-passes).1.1.0;
-          }
+      pub plan-refused : {q : Refusal} → answer ≡ Err q → SheetPromises network sheet plan old after (Err q)
+      unfolding check_plan plan_answer
+      plan-refused {q} g =
+          let v = refused-of-refused network plan (verdict (plan_checks network plan (length old))) q (sym judged.answered ∙ g) in
+          promised network sheet plan old (kept-is ∙ or-else-refused _ _ q (sym rest-is ∙ v)) refl ledger-is
 
-      -- the totals are those of the plan
-      totals-are : Ok t ≡ plan_answer network plan (Ok tt)
-      unfolding check_plan
-      totals-are = sym g ∙ judged.answered ∙ ap (plan_answer network plan) plan-passes
+      -- the plan is accepted, and gone through again
+      module _ {t : Totals} (g : answer ≡ Ok t) where
+        plan-passes : verdict (plan_checks network plan (length old)) ≡ Ok tt
+        plan-passes = (passes-of-accepted network plan (verdict (plan_checks network plan (length old))) t (unfold check_plan in (sym judged.answered ∙ g))).0
 
-      module _ {v : Verdict} (run : PassGot text plan_text table v) where
-        runs-told : {told : (Result Totals Refusal)} → told ≡ plan_answer network plan v → SheetPromises network sheet plan old after told
-        runs-told w = promised network sheet plan old (kept-is ∙ or-else-passes _ _ (sym rest-is ∙ plan-passes) ∙ sym (run.told sheet (λ r l k u. sheet-number loaded.signal-table loaded.counted.signals got e r l k (omega arith)))) w ledger-is
+        pub pass-asked : PassAsked plan_text tables table signals
+        unfolding Hold plan_checks plan_line_checks
+        pass-asked =
+            record {
+              loaded = loaded;
+              size = (got.held e).size;
+              widths = (got.held e).widths;
+              lawful = (hold-of-passes _ plan-passes).1.1.0;
+            }
 
-        pub runs-kept : v ≡ Ok tt → SheetPromises network sheet plan old after (Ok t)
-        runs-kept p = runs-told (totals-are ∙ ap (plan_answer network plan) (sym p))
+        -- the totals are those of the plan
+        totals-are : Ok t ≡ plan_answer network plan (Ok tt)
+        unfolding check_plan
+        totals-are = sym g ∙ judged.answered ∙ ap (plan_answer network plan) plan-passes
 
-        pub runs-broken : {q : Refusal} → v ≡ Err q → SheetPromises network sheet plan old after (Err q)
-        unfolding plan_answer
-        runs-broken p = runs-told (sym (rw p))
+        module _ {v : Verdict} (run : PassGot text plan_text table v) where
+          runs-told : {told : (Result Totals Refusal)} → told ≡ plan_answer network plan v → SheetPromises network sheet plan old after told
+          runs-told w = promised network sheet plan old (kept-is ∙ or-else-passes _ _ (sym rest-is ∙ plan-passes) ∙ sym (run.told sheet (λ r l k u. sheet-number loaded.signal-table loaded.counted.signals loaded.counted.few.signals got e r l k (omega arith)))) w ledger-is
+
+          pub runs-kept : v ≡ Ok tt → SheetPromises network sheet plan old after (Ok t)
+          runs-kept p = runs-told (totals-are ∙ ap (plan_answer network plan) (sym p))
+
+          pub runs-broken : {q : Refusal} → v ≡ Err q → SheetPromises network sheet plan old after (Err q)
+          unfolding plan_answer
+          runs-broken p = runs-told (sym (rw p))
 
 -- the same of texts that differ only in padding
 pub padding-too : (network plan sheet : List ℕ) {before after : List ℕ} {answer : (Result Totals Refusal)} → SheetPromises (lines network) (lines sheet) (plan_of network plan) before after answer

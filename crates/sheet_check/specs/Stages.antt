@@ -13,7 +13,7 @@ use Rattle.plan_steps.specs.declared.Run.{Run}
 use Rattle.plan_steps.specs.Reading.{Tables, PlaceAt}
 use Rattle.step_signals.specs.Step.{SignalsAt}
 use Rattle.sheet_lines.specs.Sheet.{phases_of}
-use Rattle.sheet_lines.specs.Reading.{line_in, number_in}
+use Rattle.sheet_lines.specs.Reading.{sheet_fields, line_in, number_in}
 use Rattle.model_sheet.specs.Runs.{run_checks}
 use Rattle.sheet_check.specs.declared.Pass.{Pass}
 use Rattle.sheet_check.specs.Watch.{WatchesAt}
@@ -30,6 +30,7 @@ Lawful network_text plan_text = (n : ℕ) → n < step_count (lines network_text
 pub record PassAsked (plan_text : List ℕ) (tables : NetworkTables) (table : List (List ℕ)) (signals : List Signal) : Type 0 where
   pub loaded : TablesLoaded tables signals
   pub size : length table ≡ max_signals
+  pub widths : (r : ℕ) → r < max_signals → length (line_in table r) ≡ sheet_fields
   pub lawful : Lawful tables.text.now plan_text
 
 -- how far the steps are gone through: the lines of the next step start at this place, and the signals are those at the boundary
@@ -50,6 +51,7 @@ pub record StepAsked (run : Run) (table : List (List ℕ)) (signals : List Signa
   pub tables : Tables run.tables.now
   pub tram-table : TramTable (lines run.tables.now.text.now) run.trams.now
   pub size : length table ≡ max_signals
+  pub widths : (r : ℕ) → r < max_signals → length (line_in table r) ≡ sheet_fields
   pub lawful : Lawful run.tables.now.text.now run.plan.now
   pub pass-at : PassAt run.tables.now.text.now run.plan.now pass signals
   pub more : pass.place.boundary < step_count (lines run.tables.now.text.now)

@@ -45,18 +45,15 @@ pub record WatchAsked (pass : Pass) (signals : List Signal) (said : Lines) (tabl
   pub few-steps : pass.place.boundary < max_steps
   pub few : length signals ≤ max_signals
   pub ready : AllReady signals (length signals)
+  pub watches-size : length pass.watches ≡ max_signals
   pub size : length table ≡ max_signals
 
--- the watches of the first n signals are one step on; the others are as they were
-pub record WatchedTo (before : List Watch) (signals : List Signal) (n : ℕ) (said : Lines) (table : List (List ℕ)) (line t : ℕ) (watches : List Watch) : Type 0 where
-  pub size : length watches ≡ length before
+-- the watches of the first n signals are one step on; nothing else is changed
+pub record Watched (pass : Pass) (signals : List Signal) (n : ℕ) (said : Lines) (table : List (List ℕ)) (after : Pass) : Type 0 where
+  pub size : length after.watches ≡ length pass.watches
   pub on : (r : ℕ) → r < n
-      → watch_in watches r ≡ next_watch (watch_in before r) (get_or said.asked r 0) (signal_at signals r) (get_or said.phases r 0) line t (duration_in (line_in table r) (signal_at signals r))
-  pub kept : (r : ℕ) → n ≤ r → watch_in watches r ≡ watch_in before r
-
--- those of all signals are; nothing else is changed
-pub record Watched (pass : Pass) (signals : List Signal) (said : Lines) (table : List (List ℕ)) (after : Pass) : Type 0 where
-  pub watches : WatchedTo pass.watches signals (length signals) said table (pass.place.boundary + 1) pass.time after.watches
+      → watch_in after.watches r ≡ next_watch (watch_in pass.watches r) (get_or said.asked r 0) (signal_at signals r) (get_or said.phases r 0) (pass.place.boundary + 1) pass.time (duration_in (line_in table r) (signal_at signals r))
+  pub kept : (r : ℕ) → n ≤ r → watch_in after.watches r ≡ watch_in pass.watches r
   pub same : after ≡ record pass { watches = after.watches }
 
 -- the watch of signal r at boundary n

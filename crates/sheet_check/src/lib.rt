@@ -88,7 +88,7 @@ fn duration_of(line: &[u32], signal: &Signal) -> u32
 // The watches after a step whose lines say which phases the signals show and trams ask; the signals are those before it. Where a tram asks a phase, nothing moves.
 fn watch_signals(pass: &mut Pass, signals: &[Signal], said: &Lines, table: &[SheetLine])
     requires { WatchAsked pass.old signals.now said.now table.now }
-    ensures { Watched pass.old signals.now said.now table.now pass.new }
+    ensures { Watched pass.old signals.now (length signals.now) said.now table.now pass.new }
 {
     // A step's line is its boundary counted from 1: the cast loses nothing.
     let line = (pass.place.boundary + 1) as u32;

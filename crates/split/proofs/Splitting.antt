@@ -12,13 +12,11 @@ use Rattle.model.specs.Hold.{plan_of}
 use Rattle.base_laws.proofs.Tests.{and_right}
 use Rattle.model.proofs.Accepted.{valid-network}
 use Rattle.model.proofs.Limits.{link-limits}
-use Rattle.network_tables.specs.declared.Reading.{Reading}
 use Rattle.network_tables.specs.Fields.{signal_in}
-use Rattle.network_tables.specs.Tables.{Judged}
-use Rattle.network_tables.proofs.Stages.{verdict-refused}
 use Rattle.network_tables.proofs.Tables.{signal-of-at}
-use Rattle.network.specs.Loading.{Loaded}
+use Rattle.network.specs.Loading.{TablesLoaded}
 use Rattle.plan_steps.proofs.Runs.{signals-first}
+use Rattle.split.specs.declared.FourBuffers.{FourBuffers}
 use Rattle.split_tables.specs.declared.Whole.{Whole}
 use Rattle.split_tables.specs.declared.Halves.{Halves}
 use Rattle.split_tables.specs.Whole.{whole_network, whole_plan}
@@ -30,7 +28,7 @@ use Rattle.model_split.proofs.Promises.{split-in-two}
 use Rattle.split_checks.specs.Tables.{PartsAsked}
 use Rattle.split_checks.specs.Network.{SplitTold, PartsTold}
 use Rattle.split_checks.specs.Plan.{FormAsked, FormTold}
-use Rattle.split.specs.Splitting.{texts, Passed, HalvesJudged, BothHalves, WriteAsked, fits, WrittenWhere, HalvesWritten, SplitGot}
+use Rattle.split.specs.Splitting.{texts, Passed, HalvesJudged, BothHalves, WriteAsked, fits, buffers, held_in, WrittenWhere, HalvesWritten, SplitGot}
 use Rattle.std.specs.Prelude.{Result, Ok, Err}
 use Rattle.model_split.specs.declared.Lengths.{Lengths}
 
@@ -68,13 +66,12 @@ module _ (network_text plan_text : List ℕ) (set : ℕ) (before : Buffers) wher
           record { told = rw all (unfold split_answer in (w.refused f).0); holds = rw all (unfold buffer_after in (w.refused f).1) }
 
 -- ---- a network that has passed
-pub loaded-passed : {whole : Whole} → Loaded whole.network.now whole.signals.now whole.tables.links.now whole.tables.movements.now whole.tables.times.now whole.tables.reading → Passed whole
-loaded-passed l =
+pub loaded-passed : (whole : Whole) → TablesLoaded whole.tables whole.signals.now → Passed whole
+loaded-passed whole l =
     record {
       holds = l.holds;
       counted = l.counted;
       trams-start = l.trams-start;
-      signals-start = l.signals-start;
       steps-start = l.steps-start;
       link-table = l.link-table;
       movement-table = l.movement-table;
@@ -90,7 +87,6 @@ module _ {whole : Whole} (p : Passed whole) where
   pub halves-asked : HalvesAsked whole.tables
   halves-asked =
       record {
-        signals = signals-few;
         ends = λ j side l k. let e = movement-ends (whole_network whole) p.holds p.movement-table j side (omega (arith, p.counted.movements)) k in (e.0, omega (arith, e.1, p.counted.links));
       }
 
@@ -129,7 +125,7 @@ module _ {whole : Whole} (p : Passed whole) where
       -- 9, or none
       pub form-judged : checked parts 41 0 0 ≡ Ok tt → {v : Verdict} → FormTold whole.plan.now whole.signals.now whole.tables.reading.counts v → HalvesJudged whole halves v
       form-judged z form set by =
-          form whole.network.now (record { holds = p.holds; counted = p.counted; signal-table = p.signal-table })
+          form whole.tables.text.now (record { holds = p.holds; counted = p.counted; signal-table = p.signal-table })
           ∙ sym (then-parts set by ∙ or-else-passes _ _ z)
 
   -- ---- `split_loaded`
@@ -141,8 +137,8 @@ module _ {whole : Whole} (p : Passed whole) where
     judged-is = sym (j set by-set)
 
     -- 40, 41 or 9
-    pub judged-refused : (before : Buffers) {r : Refusal} → v ≡ Err r → SplitGot whole.network.now whole.plan.now set before before (Err r)
-    judged-refused before e = got-refused whole.network.now whole.plan.now set before (judged-is ∙ e)
+    pub judged-refused : (before : Buffers) {r : Refusal} → v ≡ Err r → SplitGot whole.tables.text.now whole.plan.now set before before (Err r)
+    judged-refused before e = got-refused whole.tables.text.now whole.plan.now set before (judged-is ∙ e)
 
     module _ (e : v ≡ Ok tt) where
       hold : Hold (part_checks (whole_network whole) (whole_plan whole) set)
@@ -163,13 +159,12 @@ module _ {whole : Whole} (p : Passed whole) where
           }
 
       -- 42, or the texts
-      pub all-judged : {before after : Buffers} {answer : (Result Lengths Refusal)} → HalvesWritten whole halves before after answer → SplitGot whole.network.now whole.plan.now set before after answer
-      all-judged {before} w = got-written whole.network.now whole.plan.now set before (judged-is ∙ e) (w set both)
+      pub all-judged : {before after : Buffers} {answer : (Result Lengths Refusal)} → HalvesWritten whole halves before after answer → SplitGot whole.tables.text.now whole.plan.now set before after answer
+      all-judged {before} w = got-written whole.tables.text.now whole.plan.now set before (judged-is ∙ e) (w set both)
 
 -- ---- the call
-pub network-refused : (network_text plan_text : List ℕ) (set : ℕ) (before : Buffers) {stage : (Result Reading Refusal)} {Held : Reading → Type 0} {r : Refusal} → Judged (network_checks (lines network_text)) Held stage
-    → stage ≡ Err r → SplitGot network_text plan_text set before before (Err r)
-network-refused network_text plan_text set before {r = r} got e = got-refused network_text plan_text set before (unfold part_checks verdict in or-else-refused _ _ r (verdict-refused got e))
+pub network-refused : (network_text plan_text : List ℕ) (set : ℕ) (before : Buffers) {r : Refusal} → verdict (network_checks (lines network_text)) ≡ Err r → SplitGot network_text plan_text set before before (Err r)
+network-refused network_text plan_text set before {r} e = got-refused network_text plan_text set before (unfold part_checks verdict in or-else-refused _ _ r e)
 
 pub promised : {network_text plan_text : List ℕ} {set : ℕ} {before after : Buffers} {answer : (Result Lengths Refusal)} → SplitGot network_text plan_text set before after answer
     → SplitInTwo (texts network_text plan_text) set before after answer
@@ -181,3 +176,9 @@ promised {network_text} {plan_text} {set} {before} got = (
       let one = same_lines plan_text padded_plan p in
       record { told = got.told ∙ rw (net, one); holds = got.holds ∙ rw (net, one) },
 )
+
+-- the text is that of the tables, and the buffers are given back
+pub given-back : {text read plan : List ℕ} {set : ℕ} {before : Buffers} (lent : FourBuffers) {answer : (Result Lengths Refusal)} → SplitGot read plan set before (held_in lent) answer → read ≡ text
+    → {network₁ plan₁ network₂ plan₂ : List ℕ} → network₁ ≡ lent.network_1.now → plan₁ ≡ lent.plan_1.now → network₂ ≡ lent.network_2.now → plan₂ ≡ lent.plan_2.now
+    → SplitGot text plan set before (buffers network₁ plan₁ network₂ plan₂) answer
+given-back lent got e a b c d = rw (a, b, c, d, ← e) got

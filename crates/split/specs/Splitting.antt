@@ -5,13 +5,14 @@ use Rattle.base_search.specs.Checks.{refusal, verdict, Hold, Verdict}
 use Rattle.text_reader.specs.Lines.{Line, lines}
 use Rattle.text_reader.specs.Reading.{Starts, over}
 use Rattle.base_laws.specs.Test.{◌and◌}
-use Rattle.model.specs.Network.{tram_line, signal_line, step_line}
+use Rattle.model.specs.Network.{tram_line, step_line}
 use Rattle.model.specs.Table.{network_checks}
 use Rattle.model.specs.Hold.{plan_of}
 use Rattle.network_tables.specs.Tables.{CountsHold, LinkTable, MovementTable, SignalTable}
 use Rattle.model_split.specs.declared.Lengths.{Lengths}
 use Rattle.model_split.specs.Call.{in_set, can_split, parts_signals, part_checks, network_text₁, plan_text₁, network_text₂, plan_text₂, lengths, split_network}
 use Rattle.model_split.specs.Splits.{Texts, Buffers, room_of, buffers_after}
+use Rattle.split.specs.declared.FourBuffers.{FourBuffers}
 use Rattle.split_tables.specs.declared.Whole.{Whole}
 use Rattle.split_tables.specs.declared.Halves.{Halves}
 use Rattle.split_tables.specs.Whole.{whole_network, whole_plan}
@@ -24,13 +25,23 @@ texts network plan = record { network = network; plan = plan }
 abbrev pub buffers : List ℕ → List ℕ → List ℕ → List ℕ → Buffers
 buffers network₁ plan₁ network₂ plan₂ = record { network₁ = network₁; plan₁ = plan₁; network₂ = network₂; plan₂ = plan₂ }
 
--- a network that has passed: its counts, the places where its `T`, its `G` and its `S` lines start, and the tables of its links, movements and signals
+-- what the four buffers hold
+abbrev pub held_in : FourBuffers → Buffers
+held_in lent = buffers lent.network_1.now lent.plan_1.now lent.network_2.now lent.plan_2.now
+
+-- the same four buffers, whatever they hold
+pub record SameLent (old new : FourBuffers) : Type 0 where
+  pub network₁ : new.network_1.ghost_name ≡ old.network_1.ghost_name
+  pub plan₁ : new.plan_1.ghost_name ≡ old.plan_1.ghost_name
+  pub network₂ : new.network_2.ghost_name ≡ old.network_2.ghost_name
+  pub plan₂ : new.plan_2.ghost_name ≡ old.plan_2.ghost_name
+
+-- a network that has passed: its counts, the places where its `T` and its `S` lines start, and the tables of its links, movements and signals
 pub record Passed (whole : Whole) : Type 0 where
   pub holds : Hold (network_checks (whole_network whole))
   pub counted : CountsHold (whole_network whole) whole.tables.reading.counts
-  pub trams-start : Starts whole.network.now whole.tables.reading.trams_at (tram_line (whole_network whole) 0)
-  pub signals-start : Starts whole.network.now whole.tables.reading.signals_at (signal_line (whole_network whole) 0)
-  pub steps-start : Starts whole.network.now whole.tables.reading.steps_at (step_line (whole_network whole) 0)
+  pub trams-start : Starts whole.tables.text.now whole.tables.reading.trams_at (tram_line (whole_network whole) 0)
+  pub steps-start : Starts whole.tables.text.now whole.tables.reading.steps_at (step_line (whole_network whole) 0)
   pub link-table : LinkTable (whole_network whole) whole.tables.links.now
   pub movement-table : MovementTable (whole_network whole) whole.tables.movements.now
   pub signal-table : SignalTable (whole_network whole) whole.signals.now

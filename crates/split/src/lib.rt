@@ -4,15 +4,22 @@
 ghost use Rattle.std.specs.Prelude.{◌≡◌};
 ghost use Rattle.text_reader.specs.Padding.{PaddingIgnored};
 ghost use Rattle.model_split.specs.Splits.{SplitInTwo};
-ghost use Rattle.split.specs.Splitting.{texts, buffers, Passed, HalvesJudged, WriteAsked, Measured, fits, HalvesWritten, SplitGot};
+ghost use Rattle.split.specs.Splitting.{texts, buffers, Passed, HalvesJudged, WriteAsked, Measured, fits, held_in, SameLent, HalvesWritten, SplitGot};
 
-use base_search::Refusal;
+use base_search::{Reason, Refusal, checked};
 use model::Signal;
 use model_split::Lengths;
-use network_tables::{
-    Link, MAX_LINKS, MAX_MOVEMENTS, MAX_SIGNALS, Movement, NetworkTables, TIME_TABLE_SIZE,
-};
+use network_tables::{Link, MAX_LINKS, MAX_MOVEMENTS, MAX_SIGNALS, Movement, TIME_TABLE_SIZE};
 use split_tables::{Halves, Whole};
+
+// The buffers of the four texts, lent together.
+#[derive(Drop)]
+struct FourBuffers<'a> {
+    network_1: &'a mut [u8],
+    plan_1: &'a mut [u8],
+    network_2: &'a mut [u8],
+    plan_2: &'a mut [u8],
+}
 
 // How long the four texts are: they are put where there is no room. Each is written twice, since a buffer that is too short has to leave the other three as they
 // are, and no heap is there to keep the texts.
@@ -47,26 +54,24 @@ fn has_room(lengths: Lengths, room: Lengths) -> bool
 fn write_halves(
     whole: &Whole,
     halves: &Halves,
-    network_1: &mut [u8],
-    plan_1: &mut [u8],
-    network_2: &mut [u8],
-    plan_2: &mut [u8],
+    buffers: &mut FourBuffers,
 ) -> Result<Lengths, Refusal>
     requires { WriteAsked whole.now halves.now }
-    ensures { HalvesWritten whole.now halves.now (buffers network_1.old plan_1.old network_2.old plan_2.old) (buffers network_1.new plan_1.new network_2.new plan_2.new) result }
+    ensures lent { SameLent buffers.old buffers.new }
+    ensures written { HalvesWritten whole.now halves.now (held_in buffers.old) (held_in buffers.new) result }
 {
     let lengths = measure(whole, halves);
     let room = Lengths {
-        network_1: network_1.len(),
-        plan_1: plan_1.len(),
-        network_2: network_2.len(),
-        plan_2: plan_2.len(),
+        network_1: buffers.network_1.len(),
+        plan_1: buffers.plan_1.len(),
+        network_2: buffers.network_2.len(),
+        plan_2: buffers.plan_2.len(),
     };
-    network_tables::checked(has_room(lengths, room), 42, 0, 0)?;
-    split_text::put_network(whole, &halves.first, network_1);
-    split_text::put_plan(whole, &halves.first, plan_1);
-    split_text::put_network(whole, &halves.second, network_2);
-    split_text::put_plan(whole, &halves.second, plan_2);
+    checked(has_room(lengths, room), Reason::SplitRoom, 0, 0)?;
+    split_text::put_network(whole, &halves.first, buffers.network_1);
+    split_text::put_plan(whole, &halves.first, buffers.plan_1);
+    split_text::put_network(whole, &halves.second, buffers.network_2);
+    split_text::put_plan(whole, &halves.second, buffers.plan_2);
     Ok(lengths)
 }
 
@@ -78,8 +83,8 @@ fn judge_halves(whole: &Whole, halves: &Halves) -> Result<(), Refusal>
 {
     let can = split_checks::can_split(whole, halves);
     let parts = split_checks::parts_signals(&whole.tables, &halves.first);
-    network_tables::checked(can, 40, 0, 0)?;
-    network_tables::checked(parts, 41, 0, 0)?;
+    checked(can, Reason::SplitNetwork, 0, 0)?;
+    checked(parts, Reason::SplitSignals, 0, 0)?;
     split_checks::plan_form(whole.plan, whole.signals, whole.tables.reading.counts)
 }
 
@@ -87,17 +92,16 @@ fn judge_halves(whole: &Whole, halves: &Halves) -> Result<(), Refusal>
 fn split_loaded(
     whole: &Whole,
     first_half: u32,
-    network_1: &mut [u8],
-    plan_1: &mut [u8],
-    network_2: &mut [u8],
-    plan_2: &mut [u8],
+    buffers: &mut FourBuffers,
 ) -> Result<Lengths, Refusal>
     requires { Passed whole.now }
-    ensures { SplitGot whole.now.network.now whole.now.plan.now first_half (buffers network_1.old plan_1.old network_2.old plan_2.old) (buffers network_1.new plan_1.new network_2.new plan_2.new) result }
+    ensures lent { SameLent buffers.old buffers.new }
+    ensures got { SplitGot whole.now.tables.text.now whole.now.plan.now first_half (held_in buffers.old) (held_in buffers.new) result }
 {
-    let halves = split_tables::number_halves(first_half, &whole.tables);
+    let mut halves = Halves::EMPTY;
+    split_tables::number_halves(first_half, &whole.tables, &mut halves);
     judge_halves(whole, &halves)?;
-    write_halves(whole, &halves, network_1, plan_1, network_2, plan_2)
+    write_halves(whole, &halves, buffers)
 }
 
 // Splits a network and a plan in two, by the set of links in the first half: bit i - 1 for link i. Refusals: the network's (1 to 6, 28, 30), 40, 41, 9, 42.
@@ -117,7 +121,7 @@ pub fn split(
     let mut links = [Link::default(); MAX_LINKS];
     let mut movements = [Movement::default(); MAX_MOVEMENTS];
     let mut times = [0u32; TIME_TABLE_SIZE];
-    let reading = network::read_network(
+    let tables = network::read_network(
         network,
         &mut signals,
         &mut links,
@@ -125,15 +129,15 @@ pub fn split(
         &mut times,
     )?;
     let whole = Whole {
-        network,
         plan,
-        tables: NetworkTables {
-            reading,
-            links: &links,
-            movements: &movements,
-            times: &times,
-        },
+        tables,
         signals: &signals,
     };
-    split_loaded(&whole, first_half, network_1, plan_1, network_2, plan_2)
+    let mut buffers = FourBuffers {
+        network_1,
+        plan_1,
+        network_2,
+        plan_2,
+    };
+    split_loaded(&whole, first_half, &mut buffers)
 }

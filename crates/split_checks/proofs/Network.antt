@@ -22,7 +22,7 @@ use Rattle.split_checks.proofs.Tests.{test-fails, test-holds}
 pub record StepsTo (whole : Whole) (half : HalfTables) (step : List ℕ) (line n : ℕ) : Type 0 where
   pub within : n ≤ whole.tables.reading.counts.steps
   pub room : length step ≡ step_size
-  pub starts : Starts whole.network.now line (step_line (whole_network whole) n)
+  pub starts : Starts whole.tables.text.now line (step_line (whole_network whole) n)
   pub free : every n (step_free (whole_network whole) whole.tables.movements.now half.links) ≡ true
 
 module _ {whole : Whole} (a : StepsAsked whole) (half : HalfTables) where
@@ -38,12 +38,12 @@ module _ {whole : Whole} (a : StepsAsked whole) (half : HalfTables) where
 
   module _ {step : List ℕ} {line n : ℕ} (inv : StepsTo whole half step line n) where
     module _ (l : n < whole.tables.reading.counts.steps) {next : ℕ} {step' : List ℕ}
-        (got : ReadAgain letter_s (1 + whole.tables.reading.counts.links) whole.network.now line step next step') {v : Bool}
+        (got : ReadAgain letter_s (1 + whole.tables.reading.counts.links) whole.tables.text.now line step next step') {v : Bool}
         (told : v ≡ every whole.tables.reading.counts.movements (demand_free_in (demand_in step') whole.tables.movements.now half.links)) where
       more : n < step_count (whole_network whole)
       more = omega (arith, a.counted.steps)
 
-      read : LineHeld letter_s (1 + whole.tables.reading.counts.links) whole.network.now (step_line (whole_network whole) n) next 0 step'
+      read : LineHeld letter_s (1 + whole.tables.reading.counts.links) whole.tables.text.now (step_line (whole_network whole) n) next 0 step'
       read = got.held (step_line (whole_network whole) n) inv.starts (rw a.counted.links (step-form (whole_network whole) a.holds n more))
 
       numbers : StepNumbers (whole_network whole) n step'

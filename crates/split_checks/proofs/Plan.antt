@@ -16,7 +16,7 @@ use Rattle.network_tables.specs.declared.Counts.{Counts}
 use Rattle.network_tables.specs.Fields.{line_size}
 use Rattle.plan_steps.specs.PlanLine.{LineGot}
 use Rattle.plan_steps.proofs.PlanLines.{line-bad, line-good, plan-ends}
-use Rattle.split_tables.proofs.Marks.{zeros-at}
+use Rattle.split_tables.proofs.Items.{zeros-at}
 use Rattle.model_split.specs.Call.{form_checks}
 use Rattle.split_checks.specs.Plan.{OnNetwork, is_formed, LineForm, FormsTo, FormTold}
 use Rattle.base_laws.proofs.Tests.{not-both}

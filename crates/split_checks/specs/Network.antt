@@ -23,7 +23,7 @@ use Rattle.split_checks.specs.Tables.{demand_free_in}
 pub record StepsAsked (whole : Whole) : Type 0 where
   pub holds : Hold (network_checks (whole_network whole))
   pub counted : CountsHold (whole_network whole) whole.tables.reading.counts
-  pub starts : Starts whole.network.now whole.tables.reading.steps_at (step_line (whole_network whole) 0)
+  pub starts : Starts whole.tables.text.now whole.tables.reading.steps_at (step_line (whole_network whole) 0)
   pub movement-table : MovementTable (whole_network whole) whole.tables.movements.now
 
 -- all border movements enter links without demand in step n

@@ -5,9 +5,9 @@ use Rattle.model.specs.Network.{max_signals}
 use Rattle.network_tables.specs.declared.Link.{Link}
 use Rattle.network_tables.specs.declared.Movement.{Movement}
 use Rattle.network_tables.specs.declared.NetworkTables.{NetworkTables}
-use Rattle.network_tables.specs.Fields.{waiting_at_start_in, exit_rate_in, signal_in, link_in}
+use Rattle.network_tables.specs.Fields.{waiting_at_start_in, exit_rate_in, signal_in, movement_at, link_in}
 use Rattle.split_tables.specs.declared.HalfTables.{HalfTables}
-use Rattle.split_tables.specs.Tables.{is_in, links_in, MovementsAsked}
+use Rattle.split_tables.specs.Tables.{is_in, is_border, MovementsAsked}
 
 -- nobody waits at link i
 abbrev pub none_wait_in : List Link → ℕ → Bool
@@ -15,7 +15,7 @@ none_wait_in links i = eqb (waiting_at_start_in links i) 0
 
 -- movement j is a border movement
 abbrev pub crosses_in : List Movement → List ℕ → ℕ → Bool
-crosses_in movements numbers j = eqb (links_in movements numbers j) 1
+crosses_in movements numbers j = is_border (movement_at movements j) numbers
 
 -- movement k is j itself, or neither leaves the link that j leaves nor is a border movement into the link that j enters
 unfoldable pub stands_apart_in : List Movement → List ℕ → ℕ → ℕ → Bool

@@ -2,26 +2,27 @@
 // which ask both sides: a function has one way out to prove.
 #![tactic(auto)]
 
-ghost use Rattle.std.specs.Prelude.{◌≡◌, ◌≤◌, ◌<◌, length};
+ghost use Rattle.std.specs.Prelude.{◌≡◌, ◌≤◌, ◌<◌, not, eqb, length};
 ghost use Rattle.base_laws.specs.Test.{every};
 ghost use Rattle.model.specs.Network.{max_links, max_signals, step_count};
+ghost use Rattle.model_split.specs.Numbering.{rank};
+ghost use Rattle.split_tables.specs.Tables.{is_in};
 ghost use Rattle.network_tables.specs.Fields.{step_size, demand_in};
 ghost use Rattle.split_tables.specs.Whole.{whole_network};
 ghost use Rattle.split_checks.specs.Tables.{none_wait_in, stands_apart_in, right_kind_in, demand_free_in, own_signal_by, EndsAsked, PartsAsked};
 ghost use Rattle.split_checks.specs.Network.{StepsAsked, step_free, SplitAsked, SplitTold, PartsTold};
 ghost use Rattle.split_checks.specs.Plan.{FormAsked, LineForm, FormTold};
 
-use base_search::Refusal;
+use base_search::{Reason, Refusal};
 use model::Signal;
 use network_tables::{Counts, LINE_SIZE, Link, NetworkTables, STEP_SIZE};
 use split_tables::{HalfTables, Halves, Whole};
 
 // Whether nobody waits at the entries.
-fn nobody_waits(links: &[Link], count: usize) -> bool
-    requires { (count ≤ max_links) × (length links.now ≡ max_links) }
-    ensures { result ≡ every count (none_wait_in links.now) }
+fn nobody_waits(links: &[Link]) -> bool
+    ensures { result ≡ every (length links.now) (none_wait_in links.now) }
 {
-    (0..count).all(|i| links[i].waiting == 0)
+    links.iter().all(|link| link.waiting == 0)
 }
 
 // Whether movement k is j itself, or neither leaves the link that border movement j leaves nor is a border movement into the link that j enters.
@@ -31,7 +32,7 @@ fn stands_apart(tables: &NetworkTables, half: &HalfTables, j: usize, k: usize) -
 {
     let border = tables.movements[j];
     let movement = tables.movements[k];
-    let other = split_tables::links_in(tables.movements, &half.links, k) != 1;
+    let other = !split_tables::is_border(movement, &half.links);
     (k == j) | (movement.from != border.from) & (other | (movement.to != border.to))
 }
 
@@ -48,11 +49,11 @@ fn right_kind(tables: &NetworkTables, half: &HalfTables, j: usize) -> bool
     requires { EndsAsked tables.now × (j < tables.now.reading.counts.movements) }
     ensures { result ≡ right_kind_in tables.now.links.now tables.now.movements.now half.now.links tables.now.reading.counts.movements j }
 {
-    if split_tables::links_in(tables.movements, &half.links, j) != 1 {
+    let movement = tables.movements[j];
+    if !split_tables::is_border(movement, &half.links) {
         return true;
     }
-    let from = tables.movements[j].from as usize;
-    let link = tables.links[from - 1];
+    let link = tables.links[movement.from as usize - 1];
     (link.signal == 0) & (link.exit_rate == 0) & stands_alone(tables, half, j)
 }
 
@@ -69,9 +70,9 @@ fn demand_free(step: &[u32], tables: &NetworkTables, half: &HalfTables, j: usize
     requires { EndsAsked tables.now × (length step.now ≡ step_size) × (j < tables.now.reading.counts.movements) }
     ensures { result ≡ demand_free_in (demand_in step.now) tables.now.movements.now half.now.links j }
 {
-    let to = tables.movements[j].to as usize;
-    let other = split_tables::links_in(tables.movements, &half.links, j) != 1;
-    other | (network_tables::demand(step, to - 1) == 0)
+    let movement = tables.movements[j];
+    let other = !split_tables::is_border(movement, &half.links);
+    other | (network_tables::demand(step, movement.to as usize - 1) == 0)
 }
 
 // The same of all movements, in one step.
@@ -88,16 +89,24 @@ fn steps_free(whole: &Whole, half: &HalfTables) -> bool
     ensures { result ≡ every (step_count (whole_network whole.now)) (step_free (whole_network whole.now) whole.now.tables.movements.now half.now.links) }
 {
     let reading = whole.tables.reading;
-    let width = 1 + reading.counts.links;
+    let width = reading.counts.step_width();
     let mut step = [0u32; STEP_SIZE];
     let mut line = reading.steps_at;
     for _ in 0..reading.counts.steps {
-        line = network_tables::read_again(whole.network, line, b'S', &mut step, width);
+        line = network_tables::read_again(whole.tables.text, line, b'S', &mut step, width);
         if !step_free(&step, &whole.tables, half) {
             return false;
         }
     }
     true
+}
+
+// Whether a half has one of so many links.
+fn has_links(half: &HalfTables, count: usize) -> bool
+    requires { count ≤ max_links }
+    ensures { result ≡ not (eqb (rank (is_in half.now.links) count) 0) }
+{
+    split_tables::count_in(&half.links[..count]) != 0
 }
 
 // Whether a network can be split (40).
@@ -110,9 +119,9 @@ pub fn can_split(whole: &Whole, halves: &Halves) -> bool
     let first = &halves.first;
     (halves.above == 0)
         & (counts.past == 0)
-        & nobody_waits(tables.links, counts.links)
-        & (split_tables::count_in(&first.links, counts.links) != 0)
-        & (split_tables::count_in(&halves.second.links, counts.links) != 0)
+        & nobody_waits(&tables.links[..counts.links])
+        & has_links(first, counts.links)
+        & has_links(&halves.second, counts.links)
         & right_kinds(tables, first)
         & steps_free(whole, first)
 }
@@ -156,14 +165,13 @@ pub fn plan_form(plan: &[u8], signals: &[Signal], counts: Counts) -> Result<(), 
 {
     let mut at = 0;
     for n in 0..counts.steps {
-        let read = line_form(plan, at, signals, counts);
-        let Some(next) = read else {
-            return Err(Refusal::new(9, n + 1, 0));
+        let Some(next) = line_form(plan, at, signals, counts) else {
+            return Err(Reason::PlanForm.refusal(n + 1, 0));
         };
         at = next;
     }
     if !text_reader::is_end(plan, at) {
-        return Err(Refusal::new(9, counts.steps + 1, 0));
+        return Err(Reason::PlanForm.refusal(counts.steps + 1, 0));
     }
     Ok(())
 }

@@ -1,59 +1,45 @@
 -- The numbers of border movements, added up one after another.
-use Rattle.base_laws.proofs.Kit.{ℕ, suc, ◌+◌, ◌*◌, ◌-◌, ◌≤◌, ◌<◌, ◌≡◌, refl, ap₂, ◌∙◌, ◌≢◌, Bool, true, false, cond, List, ℕ_discrete, add-one, arith, eq-eqb, ne_eqb, eqb, length, length-set, get_or, set, replicate, length-replicate, get_or-replicate, get_or-set_same, get_or-set_other}
+use Rattle.base_laws.proofs.Kit.{ℕ, suc, ◌+◌, ◌*◌, ◌-◌, ◌≤◌, ◌<◌, ◌≡◌, refl, ap₂, ◌∙◌, Bool, true, false, List, ℕ_discrete, add-one, arith, eq-eqb, ne_eqb, eqb, length, length-set, get_or, replicate, length-replicate, get_or-replicate, get_or-set_same, get_or-set_other}
 use Rattle.text_reader.specs.Field.{largest}
 use Rattle.base_laws.specs.Test.{◌and◌}
 use Rattle.base_laws.specs.Sum.{sum, only}
 use Rattle.model.specs.Network.{max_links}
 use Rattle.network_tables.specs.declared.Movement.{Movement}
-use Rattle.network_tables.specs.Fields.{link_in}
-use Rattle.network_tables.specs.Fields.{movement_at}
-use Rattle.split_tables.specs.Tables.{links_in}
-use Rattle.split_tables.proofs.Marks.{zeros-at}
+use Rattle.network_tables.specs.Fields.{movement_at, link_in}
+use Rattle.split_tables.specs.Tables.{is_border}
+use Rattle.split_tables.proofs.Items.{zeros-at}
 use Rattle.split_text.specs.declared.Side.{Side}
 use Rattle.split_text.specs.declared.Side.TheVariants.{From, To}
 use Rattle.split_text.specs.Border.{side_number, end_on, added_at, border_sum, BorderAsked}
-use Rattle.split_text.specs.Filling.{Gives}
+use Rattle.split_tables.specs.Items.{Gives}
 
 -- ---- `add_at`
-module _ (inside link number : ℕ) (sums : List ℕ) where
-  pub added-not : inside ≢ 1 → sums ≡ added_at inside link number sums
-  unfolding added_at
-  added-not e = rw (ne_eqb inside 1 e) refl
-
-  pub added-one : inside ≡ 1 → {x : ℕ} → x ≡ number → set sums (link - 1) (get_or sums (link - 1) 0 + x) ≡ added_at inside link number sums
-  unfolding added_at
-  added-one e d = rw (eq-eqb inside 1 e, d) refl
-
+module _ (link number : ℕ) (sums : List ℕ) where
   -- what is added to link i
-  part : ℕ → ℕ
-  part i = only (eqb inside 1 and eqb link (suc i)) number
+  part : Bool → ℕ → ℕ
+  part border i = only (border and eqb link (suc i)) number
 
-  part_small : (i : ℕ) → number < 4294967296 → part i ≤ largest
+  part_small : (border : Bool) (i : ℕ) → number < 4294967296 → part border i ≤ largest
   unfolding part
-  part_small i h = go (eqb inside 1 and eqb link (suc i))
+  part_small border i h = go (border and eqb link (suc i))
     where
       go : (b : Bool) → only b number ≤ largest
       go true = omega (arith, h)
       go false = omega arith
 
-  added-is : 1 ≤ link → link ≤ length sums → (i : ℕ) → get_or (added_at inside link number sums) i 0 ≡ get_or sums i 0 + part i
+  added-is : (border : Bool) → 1 ≤ link → link ≤ length sums → (i : ℕ) → get_or (added_at border link number sums) i 0 ≡ get_or sums i 0 + part border i
   unfolding added_at ◌and◌ part
-  added-is first last i = elim (ℕ_discrete inside 1) [
-    | yes one ↦ rw (eq-eqb inside 1 one) (elim (ℕ_discrete i (link - 1)) [
-      | yes here ↦ let z : link ≡ suc i = omega arith in
-          rw (here, get_or-set_same sums (link - 1) (get_or sums (link - 1) 0 + number) 0 (omega arith)) (rw (← here, eq-eqb link (suc i) z) refl)
-      | no other ↦ rw (get_or-set_other sums (link - 1) i (get_or sums (link - 1) 0 + number) 0 other, ne_eqb link (suc i) (λ z. other (omega arith))) (omega arith)
-    ])
-    | no none ↦ rw (ne_eqb inside 1 none) (omega arith)
+  added-is false first last i = omega arith
+  added-is true first last i = elim (ℕ_discrete i (link - 1)) [
+    | yes here ↦ let z : link ≡ suc i = omega arith in
+        rw (here, get_or-set_same sums (link - 1) (get_or sums (link - 1) 0 + number) 0 (omega arith)) (rw (← here, eq-eqb link (suc i) z) refl)
+    | no other ↦ rw (get_or-set_other sums (link - 1) i (get_or sums (link - 1) 0 + number) 0 other, ne_eqb link (suc i) (λ z. other (omega arith))) (omega arith)
   ]
 
-  added-size : length (added_at inside link number sums) ≡ length sums
+  added-size : (border : Bool) → length (added_at border link number sums) ≡ length sums
   unfolding added_at
-  added-size = go (eqb inside 1)
-    where
-      go : (b : Bool) → length (cond b (set sums (link - 1) (get_or sums (link - 1) 0 + number)) sums) ≡ length sums
-      go true = length-set sums (link - 1) (get_or sums (link - 1) 0 + number)
-      go false = refl
+  added-size true = length-set sums (link - 1) (get_or sums (link - 1) 0 + number)
+  added-size false = refl
 
 -- ---- `add_border`: the first j movements
 side-small : (side : Side) → side_number side < 2
@@ -89,13 +75,13 @@ module _ {movements : List Movement} {count : ℕ} (a : BorderAsked movements co
         let u : link - 1 < max_links = omega (arith, named, l) in
         (omega (arith, named, l), omega (arith, named, l, t.size), omega (arith, t.small (link - 1) u, a.few))
 
-    pub border-next : {inside number : ℕ} → inside ≡ links_in movements numbers j → number < 4294967296 → post j number → {new : List ℕ} → new ≡ added_at inside link number sums
+    pub border-next : {border : Bool} {number : ℕ} → border ≡ is_border (movement_at movements j) numbers → number < 4294967296 → post j number → {new : List ℕ} → new ≡ added_at border link number sums
         → BorderTo movements numbers count side post new (j + 1)
     unfolding border_sum sum part
-    border-next {inside} {number} c few p w =
+    border-next {border} {number} c few p w =
         let r = border-room in
         rw w (record {
-          size = added-size inside link number sums ∙ t.size;
-          small = λ i l. omega (arith, added-is inside link number sums r.0 r.1 i, part_small inside link number sums i few, t.small i l);
-          are = λ f g i. rw (add-one j) (added-is inside link number sums r.0 r.1 i ∙ ap₂ (λ x y. x + y) (t.are f g i) (rw (c, named, g j number h p) refl));
+          size = added-size link number sums border ∙ t.size;
+          small = λ i l. omega (arith, added-is link number sums border r.0 r.1 i, part_small link number sums border i few, t.small i l);
+          are = λ f g i. rw (add-one j) (added-is link number sums border r.0 r.1 i ∙ ap₂ (λ x y. x + y) (t.are f g i) (rw (c, named, g j number h p) refl));
         })

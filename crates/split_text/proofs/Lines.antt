@@ -1,32 +1,37 @@
 -- The `N`, `T`, `G`, `Q` and `M` lines of a half, put by the program's tables.
-use Rattle.base_laws.proofs.Kit.{ℕ, suc, ◌+◌, ◌*◌, ◌-◌, ◌≤◌, ◌<◌, ◌≡◌, refl, ap, ◌∙◌, ◌≢◌, Bool, true, false, not, cond, List, [], ◌∷◌, add-one, arith, eq-eqb, ne_eqb, eqb, length, get_or, take}
-use Rattle.text_reader.specs.Lines.{lines}
-use Rattle.text_reader.specs.Reading.{Starts}
+use Rattle.base_laws.proofs.Kit.{ℕ, ◌+◌, ◌*◌, ◌-◌, ◌≤◌, ◌<◌, ◌≡◌, refl, ap, ◌∙◌, ◌≢◌, Bool, true, false, not, cond, List, [], ◌∷◌, arith, eq-eqb, ne_eqb, eqb, length, get_or, take, length-take, get_or-take}
+use Rattle.std.proofs.lemmas.List.{get_or_default}
+use Rattle.text_reader.specs.Lines.{Line}
 use Rattle.text_writer.specs.Records.{record_text}
 use Rattle.base_laws.specs.Indexed.{list}
-use Rattle.model.specs.Network.{entry, signal_line, signal}
+use Rattle.model.specs.Signals.{signal_row as row_of}
+use Rattle.model.specs.Network.{max_links, max_signals, max_movements, entry, signal_line, signal}
 use Rattle.model.specs.Table.{letter_n, letter_t, letter_g, letter_q, letter_m}
 use Rattle.network_tables.specs.declared.Counts.{Counts}
 use Rattle.network_tables.specs.declared.Link.{Link}
 use Rattle.network_tables.specs.declared.Movement.{Movement}
 use Rattle.network_tables.specs.declared.Tram.{Tram}
-use Rattle.network_tables.specs.Rows.{LineHeld, ReadAgain}
-use Rattle.model.specs.Signals.{signal_fields}
-use Rattle.network_tables.specs.Fields.{tram_at, signal_at, capacity_in, travel_time_in, exit_rate_in, signal_in, phase_mask_in, standing_in, waiting_at_start_in, link_in, rate_in, share_in}
-use Rattle.network_writer.specs.Put.{Put}
-use Rattle.network_writer.specs.Texts.{line_texts}
+use Rattle.network_tables.specs.declared.NetworkTables.{NetworkTables}
+use Rattle.network_tables.specs.Fields as fields
+use Rattle.network_tables.specs.Fields.{tram_by, tram_at, signal_at, link_by, link_at, movement_by, movement_at}
+use Rattle.network_writer.specs.declared.Output.{Output}
+use Rattle.network_writer.specs.Put.{Put, Early}
+use Rattle.network_writer.specs.Texts.{line_texts, rows_to, RowIs}
 use Rattle.network_writer.proofs.Reading.{numbers-are}
+use Rattle.base_laws.proofs.Laws.{length-list}
+use Rattle.base_laws.proofs.Sums.{list_at}
 use Rattle.model_split.specs.Numbering.{rank, picked}
-use Rattle.model_split.proofs.Numbering.{rank-le}
+use Rattle.model_split.proofs.Numbering.{picked-length}
 use Rattle.split_tables.specs.declared.Whole.{Whole}
 use Rattle.split_tables.specs.declared.HalfTables.{HalfTables}
 use Rattle.split_tables.specs.Whole.{whole_network}
-use Rattle.split_tables.specs.Tables.{is_in}
-use Rattle.split_tables.proofs.Tables.{one_where}
-use mir.Val.{bool_byte}
-use Rattle.split_text.specs.Rows.{signal_number_in, count_row, tram_in, tram_row, signal_row, link_row, movement_row, SignalsAsked}
+use Rattle.split_tables.specs.Tables.{is_in, LinksNamed}
+use Rattle.split_tables.proofs.Ends.{ends-named}
+use Rattle.split_tables.proofs.Items.{counted-front}
+use Rattle.split_text.specs.Rows.{signal_number_in, count_row, tram_kept, tram_in, tram_row, signal_row, link_kept, link_row, movement_kept, movement_row, TramsAsked, SignalsAsked, LinksAsked, MovementsAsked}
 use Rattle.split_text.specs.Filling.{raised}
-use Rattle.split_text.proofs.Picked.{picks-none, picks-next}
+use Rattle.split_text.proofs.Picked.{rows-are, picks-one, picks-other}
+use Rattle.std.specs.Prelude.{Option, Some, None, option_to_list}
 
 -- ---- `signal_number`
 module _ (half : HalfTables) (signal : ℕ) where
@@ -38,87 +43,129 @@ module _ (half : HalfTables) (signal : ℕ) where
   unfolding signal_number_in
   number-some e = rw (ne_eqb signal 0 e) refl
 
--- ---- `put_counts`
-pub counts-put : (counts : Counts) (trams : ℕ) (half : HalfTables) {a b c : ℕ} → a ≡ rank (is_in half.links) counts.links → b ≡ rank (is_in half.signals) counts.signals
-    → c ≡ rank (is_in half.movements) counts.movements → {old new : List ℕ} {end : ℕ}
-    → Put 1 (record_text letter_n (a ∷ b ∷ c ∷ counts.steps ∷ trams ∷ 0 ∷ [])) 0 old new end → Put 1 (record_text letter_n (count_row counts trams half)) 0 old new end
-unfolding count_row
-counts-put counts trams half e f g p = rw (e, f, g) at p
+-- ---- `put_counts`: each table is counted in front
+module _ (counts : Counts) (trams : ℕ) (half : HalfTables) where
+  counted : (numbers : List ℕ) (n : ℕ) → ℕ → Type 0
+  counted numbers n found = found ≡ rank (is_in (take n numbers)) (length (take n numbers))
+
+  pub counts-put : counts.links ≤ length half.links → counts.signals ≤ length half.signals → counts.movements ≤ length half.movements → {a b c : ℕ}
+      → a ≡ rank (is_in (take counts.links half.links)) (length (take counts.links half.links))
+      → b ≡ rank (is_in (take counts.signals half.signals)) (length (take counts.signals half.signals))
+      → c ≡ rank (is_in (take counts.movements half.movements)) (length (take counts.movements half.movements)) → {old new : Output}
+      → Put 1 (record_text letter_n (a ∷ b ∷ c ∷ counts.steps ∷ trams ∷ 0 ∷ [])) old new → Put 1 (record_text letter_n (count_row counts trams half)) old new
+  unfolding count_row
+  counts-put k l m e f g p =
+      rw (e ∙ counted-front half.links counts.links k, f ∙ counted-front half.signals counts.signals l, g ∙ counted-front half.movements counts.movements m) at p
+
+-- ---- an item that is kept has one row, and another none
+row-of : {T : Type 0} (to_row : T → List ℕ) (left-out : Bool) (item : T) (row : List ℕ) → to_row item ≡ row
+    → RowIs (λ t r. r ≡ to_row t) (cond left-out None (Some item)) (cond (not left-out) (row ∷ []) [])
+row-of to_row true item row h = refl
+row-of to_row false item row h = λ r e. ap (λ z. z ∷ []) (e ∙ h)
+
+many-of : {T : Type 0} (left-out : Bool) (item : T) (row : List ℕ) → length (option_to_list (cond left-out None (Some item))) ≡ length (cond (not left-out) (row ∷ []) [])
+many-of true item row = refl
+many-of false item row = refl
+
+-- ---- the `G` line of a signal
+-- its row in the table is its line's
+row-read : (network : List Line) (r : ℕ) → row_of (signal network r) ≡ list 22 (entry network (signal_line network r))
+unfolding row_of signal list
+row-read network r = refl
+
+signal-front : (network : List Line) (r : ℕ) → (signal network r).phases ≤ 8 → take (6 + 2 * (signal network r).phases) (row_of (signal network r)) ≡ signal_row network r
+unfolding signal_row
+signal-front network r few =
+    rw row-read
+    (numbers-are (6 + 2 * (signal network r).phases) (entry network (signal_line network r)) (list 22 (entry network (signal_line network r)))
+    (omega (arith, few, length-list {A = ℕ} (entry network (signal_line network r)) 22)) (λ k l. list_at 22 (entry network (signal_line network r)) k (omega (arith, few))))
+
+module _ {whole : Whole} {old : Output} (a : SignalsAsked whole old) (half : HalfTables) {r : ℕ} (h : r < whole.tables.reading.counts.signals) {now : Output}
+    (t : Put r (line_texts letter_g (picked r (is_in half.signals) (signal_row (whole_network whole)))) old now) where
+  pub signals-early : Early 1 now
+  signals-early = omega (arith, t.ends, t.few, a.early)
+
+  pub signals-more : get_or half.signals r 0 ≢ 0 → {row : List ℕ} → row ≡ row_of (signal_at whole.signals.now r) → {width : ℕ} → width ≡ 6 + 2 * (signal_at whole.signals.now r).phases → {new : Output}
+      → Put 1 (record_text letter_g (take width row)) now new → Put (r + 1) (line_texts letter_g (picked (r + 1) (is_in half.signals) (signal_row (whole_network whole)))) old new
+  unfolding is_in
+  signals-more some e w p =
+      picks-one letter_g _ _ t (ap not (ne_eqb (get_or half.signals r 0) 0 some)) (rw (e, w, a.holds r h, signal-front (whole_network whole) r (a.few-phases r h)) at p)
+
+  pub signals-same : get_or half.signals r 0 ≡ 0 → Put (r + 1) (line_texts letter_g (picked (r + 1) (is_in half.signals) (signal_row (whole_network whole)))) old now
+  unfolding is_in
+  signals-same none = picks-other letter_g _ _ t (ap not (eq-eqb (get_or half.signals r 0) 0 none))
 
 -- ---- the `T` lines
-module _ (trams : List Tram) (half : HalfTables) (k : ℕ) {x : ℕ} (e : x ≡ signal_number_in half (tram_at trams k).signal) where
-  pub found-next : {found one : ℕ} → found ≡ rank (tram_in trams half) k → one ≡ bool_byte (not (eqb x 0)) → found + one ≡ rank (tram_in trams half) (k + 1)
-  unfolding rank tram_in
-  found-next f o = rw (add-one k, o ∙ one_where _, f, ← e) refl
+module _ (trams : List Tram) (half : HalfTables) where
+  abbrev pub tram-rows : ℕ → List (List ℕ)
+  tram-rows k = cond (tram_in trams half k) (tram_row trams half k ∷ []) []
 
-  pub trams-next : {at mid end : ℕ} {old out new : List ℕ} → Put k (line_texts letter_t (picked k (tram_in trams half) (tram_row trams half))) at old out mid
-      → Put 1 (line_texts letter_t (cond (not (eqb x 0)) ((x ∷ (tram_at trams k).phase ∷ (tram_at trams k).first_step ∷ (tram_at trams k).last_step ∷ []) ∷ []) [])) mid out new end
-      → Put (k + 1) (line_texts letter_t (picked (k + 1) (tram_in trams half) (tram_row trams half))) at old new end
-  trams-next p q = picks-next letter_t _ _ p (unfold tram_in tram_row in (rw e at q))
+  module _ (k : ℕ) (none : Tram) (h : k < length trams) where
+    at-k : get_or trams k none ≡ tram_at trams k
+    at-k = get_or_default trams k none (tram_by (λ k. 0)) h
 
-pub one-small : (t : Bool) → bool_byte t ≤ 1
-one-small true = omega arith
-one-small false = omega arith
+    pub tram-given : (changed : Option Tram) → changed ≡ tram_kept half (get_or trams k none) → RowIs (λ tram row. row ≡ fields.tram_row tram) changed (tram-rows k)
+    unfolding tram_kept tram_in tram_row
+    tram-given changed e = rw (e, at-k) (row-of fields.tram_row (eqb (signal_number_in half (tram_at trams k).signal) 0) _ _ refl)
 
-module _ (trams : List Tram) (half : HalfTables) {found k : ℕ} (f : found ≡ rank (tram_in trams half) k) where
-  pub found-small : found ≤ k
-  found-small = omega (arith, f, rank-le (tram_in trams half) k)
+    pub tram-many : (changed : Option Tram) → changed ≡ tram_kept half (get_or trams k none) → length (option_to_list changed) ≡ length (tram-rows k)
+    unfolding tram_kept tram_in
+    tram-many changed e = rw (e, at-k) (many-of (eqb (signal_number_in half (tram_at trams k).signal) 0) _ _)
 
-  pub found_all : {count : ℕ} → k ≡ count → (found ≡ rank (tram_in trams half) count) × (found ≤ count)
-  found_all z = (rw z at f, omega (arith, found-small))
+  pub trams-put : {old new : Output} → Put (length trams) (line_texts letter_t (rows_to (length trams) tram-rows)) old new
+      → Put (length trams) (line_texts letter_t (picked (length trams) (tram_in trams half) (tram_row trams half))) old new
+  trams-put p = rw (rows-are (length trams) (tram_in trams half) (tram_row trams half)) at p
 
--- ---- the `G` lines
-pub record SignalsPut (whole : Whole) (half : HalfTables) (row : List ℕ) (line at : ℕ) (old out : List ℕ) (end k : ℕ) : Type 0 where
-  pub size : length row ≡ signal_fields
-  pub starts : Starts whole.network.now line (signal_line (whole_network whole) k)
-  pub picks : Put k (line_texts letter_g (picked k (is_in half.signals) (signal_row (whole_network whole)))) at old out end
+  pub trams-found : {found : ℕ} → found ≡ length (rows_to (length trams) tram-rows) → found ≡ rank (tram_in trams half) (length trams)
+  trams-found e = e ∙ ap length (rows-are (length trams) (tram_in trams half) (tram_row trams half)) ∙ picked-length (tram_in trams half) (tram_row trams half) (length trams)
 
-module _ {whole : Whole} {at : ℕ} (a : SignalsAsked whole at) (half : HalfTables) where
-  abbrev written : List ℕ
-  written = whole.network.now
+-- ---- the `Q` lines of the links in front of a table
+module _ (links : List Link) (rates : List ℕ) (half : HalfTables) (n : ℕ) where
+  abbrev pub link-rows : ℕ → List (List ℕ)
+  link-rows i = cond (is_in half.links i) (link_row links rates half i ∷ []) []
 
-  pub signals-none : {row : List ℕ} (old : List ℕ) → length row ≡ signal_fields → SignalsPut whole half row whole.tables.reading.signals_at at old old at 0
-  signals-none old l = record { size = l; starts = a.starts; picks = picks-none _ _ _ at old }
+  module _ (i : ℕ) (none : Link) (h : i < length (take n links)) where
+    pub link-here : get_or (take n links) i none ≡ link_at links i
+    link-here = get_or_default (take n links) i none (link_by (λ k. 0)) h ∙ get_or-take n links i (link_by (λ k. 0)) (omega (arith, length-take n links))
 
-  module _ {k : ℕ} (h : k < whole.tables.reading.counts.signals) {wide : ℕ} (w : wide ≡ 6 + 2 * (signal_at whole.signals.now k).phases) where
-    width_is : wide ≡ 6 + 2 * (signal (lines written) k).phases
-    width_is = omega (arith, a.phases k h)
+    pub link-given : (changed : Option Link) → changed ≡ link_kept rates half i (get_or (take n links) i none) → RowIs (λ link row. row ≡ fields.link_row link) changed (link-rows i)
+    unfolding link_kept link_row is_in raised
+    link-given changed e = rw (e, link-here) (row-of fields.link_row (eqb (get_or half.links i 0) 0) _ _ refl)
 
-    width_small : wide ≤ signal_fields
-    width_small = omega (arith, width_is, a.few-phases k h)
+  pub links-put : n ≤ length links → {old new : Output} → Put (length (take n links)) (line_texts letter_q (rows_to (length (take n links)) link-rows)) old new
+      → Put n (line_texts letter_q (picked n (is_in half.links) (link_row links rates half))) old new
+  links-put h p = let e : length (take n links) ≡ n = omega (arith, length-take n links) in rw (e, rows-are n (is_in half.links) (link_row links rates half)) at p
 
-    module _ {row : List ℕ} {line end : ℕ} {old out : List ℕ} (t : SignalsPut whole half row line at old out end k) {next : ℕ} {row' : List ℕ} (r : ReadAgain letter_g wide written line row next row') where
-      sized-row : length row' ≡ signal_fields
-      sized-row = r.size ∙ t.size
+-- ---- the `M` lines of the movements in front of a table
+module _ (movements : List Movement) (half : HalfTables) (n : ℕ) where
+  abbrev pub movement-rows : ℕ → List (List ℕ)
+  movement-rows j = cond (is_in half.movements j) (movement_row movements half j ∷ []) []
 
-      signal-held : LineHeld letter_g wide written (signal_line (lines written) k) next 0 row'
-      signal-held = r.held (signal_line (lines written) k) t.starts (rw width_is (a.forms k h))
+  module _ (j : ℕ) (none : Movement) (h : j < length (take n movements)) where
+    pub movement-here : get_or (take n movements) j none ≡ movement_at movements j
+    movement-here = get_or_default (take n movements) j none (movement_by (λ k. 0)) h ∙ get_or-take n movements j (movement_by (λ k. 0)) (omega (arith, length-take n movements))
 
-      signal-same : take wide row' ≡ signal_row (lines written) k
-      unfolding signal_row
-      signal-same =
-          numbers-are wide (entry (lines written) (signal_line (lines written) k)) row' (omega (arith, sized-row, width_small)) (λ j l. let z : j ≡ 0 + j = omega arith in ap (λ x. get_or row' x 0) z ∙ signal-held.numbers j l)
-          ∙ ap (λ x. list x (entry (lines written) (signal_line (lines written) k))) width_is
+    pub movement-given : (changed : Option Movement) → changed ≡ movement_kept half j (get_or (take n movements) j none) → RowIs (λ movement row. row ≡ fields.movement_row movement) changed (movement-rows j)
+    unfolding movement_kept movement_row is_in
+    movement-given changed e = rw (e, movement-here) (row-of fields.movement_row (eqb (get_or half.movements j 0) 0) _ _ refl)
 
-      pub signals-next : {new : List ℕ} {end' : ℕ} → Put 1 (line_texts letter_g (cond (not (eqb (get_or half.signals k 0) 0)) (take wide row' ∷ []) [])) end out new end'
-          → SignalsPut whole half row' next at old new end' (k + 1)
-      unfolding signal_line
-      signals-next q =
-          record {
-            size = sized-row;
-            starts = let e : signal_line (lines written) (k + 1) ≡ suc (signal_line (lines written) k) = omega arith in rw e signal-held.starts;
-            picks = picks-next letter_g _ _ t.picks (unfold is_in in (rw signal-same at q));
-          }
+  pub movements-put : n ≤ length movements → {old new : Output} → Put (length (take n movements)) (line_texts letter_m (rows_to (length (take n movements)) movement-rows)) old new
+      → Put n (line_texts letter_m (picked n (is_in half.movements) (movement_row movements half))) old new
+  movements-put h p = let e : length (take n movements) ≡ n = omega (arith, length-take n movements) in rw (e, rows-are n (is_in half.movements) (movement_row movements half)) at p
 
--- ---- the `Q` line of link i, and the `M` line of movement j
-pub links-next : (links : List Link) (rates : List ℕ) (half : HalfTables) {at end i : ℕ} {old out : List ℕ} → Put i (line_texts letter_q (picked i (is_in half.links) (link_row links rates half))) at old out end
-    → {c d : ℕ} → c ≡ raised (exit_rate_in links) rates i → d ≡ signal_number_in half (signal_in links i) → {new : List ℕ} {next : ℕ}
-    → Put 1 (line_texts letter_q (cond (not (eqb (get_or half.links i 0) 0)) ((capacity_in links i ∷ travel_time_in links i ∷ c ∷ d ∷ phase_mask_in links i ∷ standing_in links i ∷ waiting_at_start_in links i ∷ []) ∷ []) [])) end out new next
-    → Put (i + 1) (line_texts letter_q (picked (i + 1) (is_in half.links) (link_row links rates half))) at old new next
-links-next links rates half t ec ed put = picks-next letter_q _ _ t (unfold is_in link_row in (rw (ec, ed) at put))
+-- ---- what is asked of each item
+pub tram-signal : (trams : List Tram) → TramsAsked trams → (k : ℕ) (none : Tram) → k < length trams → (get_or trams k none).signal ≤ max_signals
+tram-signal trams a k none h = rw (get_or_default trams k none (tram_by (λ k. 0)) h) (a.signals k h)
 
-pub movements-next : (movements : List Movement) (half : HalfTables) {at end j : ℕ} {old out : List ℕ} → Put j (line_texts letter_m (picked j (is_in half.movements) (movement_row movements half))) at old out end
-    → {new : List ℕ} {next : ℕ}
-    → Put 1 (line_texts letter_m (cond (not (eqb (get_or half.movements j 0) 0)) ((get_or half.links (link_in movements 0 j - 1) 0 ∷ get_or half.links (link_in movements 1 j - 1) 0 ∷ rate_in movements j ∷ share_in movements j ∷ []) ∷ []) [])) end out new next
-    → Put (j + 1) (line_texts letter_m (picked (j + 1) (is_in half.movements) (movement_row movements half))) at old new next
-movements-next movements half p put = picks-next letter_m _ _ p (unfold is_in movement_row in put)
+module _ {tables : NetworkTables} {output : Output} where
+  pub link-signal : LinksAsked tables output → (i : ℕ) (none : Link) → i < length (take tables.reading.counts.links tables.links.now)
+      → (i < max_links) × ((get_or (take tables.reading.counts.links tables.links.now) i none).signal ≤ max_signals)
+  link-signal a i none h =
+      let l : i < tables.reading.counts.links = omega (arith, length-take tables.reading.counts.links tables.links.now) in
+      (omega (arith, l, tables.sized.few.links), rw (link-here tables.links.now [] (record { links = []; signals = []; movements = [] }) tables.reading.counts.links i none h) (a.signals i l))
+
+  pub movement-ends : MovementsAsked tables output → (j : ℕ) (none : Movement) → j < length (take tables.reading.counts.movements tables.movements.now)
+      → (j < max_movements) × LinksNamed (get_or (take tables.reading.counts.movements tables.movements.now) j none)
+  movement-ends a j none h =
+      let l : j < tables.reading.counts.movements = omega (arith, length-take tables.reading.counts.movements tables.movements.now) in
+      (omega (arith, l, tables.sized.few.movements), rw (movement-here tables.movements.now (record { links = []; signals = []; movements = [] }) tables.reading.counts.movements j none h) (ends-named a.table-asked l))

@@ -1,36 +1,42 @@
 -- Lines of what is in the half, put one behind another.
-use Rattle.base_laws.proofs.Kit.{ℕ, zero, suc, ◌+◌, ◌<◌, ◌≡◌, refl, ap, ap₂, ◌∙◌, ◌≢◌, Bool, true, false, not, cond, List, [], ◌∷◌, ◌++◌, append-nil, add-one, arith, eq-eqb, ne_eqb, eqb, get_or}
+use Rattle.base_laws.proofs.Kit.{ℕ, zero, suc, ◌+◌, ◌<◌, ◌≡◌, refl, ap, ap₂, ◌∙◌, Bool, true, false, cond, List, [], ◌∷◌, ◌++◌, append-nil, add-one, arith, get_or}
 use Rattle.text_writer.specs.Records.{record_text, record_texts}
+use Rattle.network_writer.specs.declared.Output.{Output}
 use Rattle.network_writer.specs.Put.{Put}
-use Rattle.network_writer.specs.Texts.{line_texts}
+use Rattle.network_writer.specs.Texts.{line_texts, rows_to}
 use Rattle.network_writer.proofs.Put.{put-none, puts-more}
 use Rattle.network_writer.proofs.Texts.{texts-more, texts-of-list}
 use Rattle.model_split.specs.Numbering.{rank, picked}
 use Rattle.model_split.proofs.Numbering.{picked-length}
 use Rattle.base_laws.proofs.Tests.{not-both}
 
--- ---- `put_kept`
-module _ (number letter : ℕ) (row : List ℕ) {at : ℕ} {old : List ℕ} where
-  pub kept-none : number ≡ 0 → Put 1 (line_texts letter (cond (not (eqb number 0)) (row ∷ []) [])) at old old at
-  unfolding line_texts
-  kept-none e = rw (eq-eqb number 0 e) (let p = put-none at old in record { ends = p.ends; few = omega arith; size = refl; is = p.is })
-
-  pub kept-one : number ≢ 0 → {new : List ℕ} {end : ℕ} → Put 1 (record_text letter row) at old new end → Put 1 (line_texts letter (cond (not (eqb number 0)) (row ∷ []) [])) at old new end
-  unfolding line_texts
-  kept-one e p = rw (ne_eqb number 0 e, append-nil) p
-
 -- ---- of the first k lines of one letter those that are picked
-pub picks-none : (letter : ℕ) (test : ℕ → Bool) (f : ℕ → List ℕ) (at : ℕ) (old : List ℕ) → Put 0 (line_texts letter (picked 0 test f)) at old old at
-unfolding picked line_texts
-picks-none letter test f at old = put-none at old
+module _ (letter : ℕ) (test : ℕ → Bool) (f : ℕ → List ℕ) where
+  pub picks-none : (output : Output) → Put 0 (line_texts letter (picked 0 test f)) output output
+  unfolding picked line_texts
+  picks-none output = put-none output
 
-pub picks-next : (letter : ℕ) (test : ℕ → Bool) (f : ℕ → List ℕ) {at end next k : ℕ} {old out new : List ℕ} → Put k (line_texts letter (picked k test f)) at old out end
-    → Put 1 (line_texts letter (cond (test k) (f k ∷ []) [])) end out new next → Put (k + 1) (line_texts letter (picked (k + 1) test f)) at old new next
-unfolding picked
-picks-next letter test f {k = k} t p =
-    let e : k + 1 ≡ suc k = add-one k in
-    let w = puts-more t p in
-    rw (e, texts-more letter (picked k test f) (cond (test k) (f k ∷ []) [])) (rw e at w)
+  module _ {k : ℕ} {old mid : Output} (t : Put k (line_texts letter (picked k test f)) old mid) where
+    pub picks-next : {new : Output} → Put 1 (line_texts letter (cond (test k) (f k ∷ []) [])) mid new → Put (k + 1) (line_texts letter (picked (k + 1) test f)) old new
+    unfolding picked
+    picks-next p =
+        let e : k + 1 ≡ suc k = add-one k in
+        let w = puts-more t p in
+        rw (e, texts-more letter (picked k test f) (cond (test k) (f k ∷ []) [])) (rw e at w)
+
+    pub picks-one : test k ≡ true → {new : Output} → Put 1 (record_text letter (f k)) mid new → Put (k + 1) (line_texts letter (picked (k + 1) test f)) old new
+    unfolding line_texts
+    picks-one e p = picks-next (rw (e, append-nil) p)
+
+    pub picks-other : test k ≡ false → Put (k + 1) (line_texts letter (picked (k + 1) test f)) old mid
+    unfolding line_texts
+    picks-other e = let p = put-none mid in picks-next (rw e (record { buffer = refl; ends = p.ends; few = omega arith; size = refl; is = p.is }))
+
+-- the rows of a table's items that are picked
+pub rows-are : (n : ℕ) (test : ℕ → Bool) (f : ℕ → List ℕ) → rows_to n (λ k. cond (test k) (f k ∷ []) []) ≡ picked n test f
+unfolding rows_to picked
+rows-are zero test f = refl
+rows-are (suc n) test f = ap (λ (xs : List (List ℕ)). xs ++ cond (test n) (f n ∷ []) []) (rows-are n test f)
 
 -- ---- what is picked by two tests that agree
 one_same : {A : Type 0} (b c : Bool) (x y : A) → b ≡ c → (c ≡ true → x ≡ y) → cond b (x ∷ []) [] ≡ cond c (y ∷ []) []

@@ -44,7 +44,7 @@ module _ {whole : Whole} (held : Held whole) where
 
         go : (r : Option ℕ) → read.result ≡ r → PlanNumbers (whole_network whole) (whole_plan whole) n line × PlanAt whole.plan.now next (suc n)
         go (Some place) e = (
-          line-numbers whole.network.now whole.plan.now valid held.counted within starts shown (λ empty k u. zeros k) size read.got e,
-          λ h. rw (read.next-is place e) (next-starts whole.network.now whole.plan.now valid held.counted within starts shown (λ empty k u. zeros k) size read.got e h),
+          line-numbers whole.tables.text.now whole.plan.now valid held.counted within starts shown (λ empty k u. zeros k) size read.got e,
+          λ h. rw (read.next-is place e) (next-starts whole.tables.text.now whole.plan.now valid held.counted within starts shown (λ empty k u. zeros k) size read.got e h),
         )
-        go None e = absurd (not-both (held.forms n within) (line-bad whole.network.now whole.plan.now valid held.counted within starts shown (λ empty k u. zeros k) size read.got e))
+        go None e = absurd (not-both (held.forms n within) (line-bad whole.tables.text.now whole.plan.now valid held.counted within starts shown (λ empty k u. zeros k) size read.got e))

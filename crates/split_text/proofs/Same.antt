@@ -17,7 +17,7 @@ use Rattle.network_tables.specs.declared.Counts.{Counts}
 use Rattle.network_tables.specs.declared.Link.{Link}
 use Rattle.network_tables.specs.declared.Movement.{Movement}
 use Rattle.network_tables.specs.declared.Tram.{Tram}
-use Rattle.network_tables.specs.Fields.{link_in, rate_in, demand_in, admitted_in, let_out_in, moved_in}
+use Rattle.network_tables.specs.Fields.{movement_at, link_in, rate_in, demand_in, admitted_in, let_out_in, moved_in}
 use Rattle.network_tables.specs.Tables.{CountsHold, TramTable, LinkTable, MovementTable, StepNumbers, PlanNumbers}
 use Rattle.network_tables.proofs.Tables.{capacity-at, travel-time-at, exit-rate-at, signal-of-at, phase-mask-at, standing-at, waiting-at-start-at, from-link-at, to-link-at, rate-at, share-at, step-length-at, demand-at, shown-mask-at, admitted-at, let-out-at, moved_at}
 use Rattle.model_text.proofs.Formed.{Formed, formed-of-holds}
@@ -29,9 +29,9 @@ use Rattle.model_split.proofs.Border.{Splittable, splittable, first-apart, secon
 use Rattle.model_split.proofs.HalfValid.{exit_small}
 use Rattle.model_split.proofs.Trams.{signal-there}
 use Rattle.split_tables.specs.declared.HalfTables.{HalfTables}
-use Rattle.split_tables.specs.Tables.{is_in, links_in, HalfNumbered}
+use Rattle.split_tables.specs.Tables.{is_in, is_border, HalfNumbered}
 use Rattle.split_tables.proofs.Ends.{from-there, to-there}
-use Rattle.split_tables.proofs.Tables.{one-crosses, half-has-link, half-has-signal, half-has-movement}
+use Rattle.split_tables.proofs.Tables.{border-is, half-has-link, half-has-signal, half-has-movement}
 use Rattle.split_text.specs.Border.{border_sum, Bordered}
 use Rattle.split_text.specs.Filling.{raised}
 use Rattle.split_text.specs.Rows.{signal_number_in, tram_in, tram_row, link_row, movement_row}
@@ -104,16 +104,16 @@ module _ {network : List Line} (holds : Hold (network_checks network)) {set : �
         ) refl
 
     -- a movement that has one link in the half is a border movement
-    crosses-is : (j : ℕ) → j < movement_count network → eqb (links_in movements half.links j) 1 ≡ crosses network first j
-    crosses-is j l = one-crosses h half.links movements table.links moves j l (from-there network holds j l) (to-there network holds j l) ∙ sym (apart.sides j)
+    crosses-is : (j : ℕ) → j < movement_count network → is_border (movement_at movements j) half.links ≡ crosses network first j
+    crosses-is j l = border-is h half.links movements table.links moves j l (from-there network holds j l) (to-there network holds j l) ∙ sym (apart.sides j)
 
     -- what the border adds at a link, by the side on which movements name it
-    border-is : {side : ℕ} {link : ℕ → ℕ} → ((j : ℕ) → j < movement_count network → link_in movements side j ≡ link j) → {count : ℕ} → count ≡ movement_count network
+    border-at : {side : ℕ} {link : ℕ → ℕ} → ((j : ℕ) → j < movement_count network → link_in movements side j ≡ link j) → {count : ℕ} → count ≡ movement_count network
         → {f : ℕ → ℕ} (g : ℕ → ℕ) → ((j : ℕ) → j < movement_count network → f j ≡ g j)
         → {sums : List ℕ} → Bordered movements half.links count side f sums
         → (i : ℕ) → i < link_count network → get_or sums i 0 ≡ sum (movement_count network) (λ j. only (crosses network first j and eqb (link j) (suc i)) (g j))
     unfolding border_sum
-    border-is named e g same b i l =
+    border-at named e g same b i l =
         b.are i ∙ rw e (sum-ext (movement_count network) _ _ (λ j u. rw (crosses-is j u, named j u, same j u) refl))
 
     -- ---- `Q` lines
@@ -121,7 +121,7 @@ module _ {network : List Line} (holds : Hold (network_checks network)) {set : �
         (r : Bordered movements half.links count 0 (rate_in movements) rates) where
       rates-are : (i : ℕ) → i < link_count network → get_or rates i 0 ≡ border_rate network first i
       unfolding crossing_from
-      rates-are = border-is (from-link-at moves) counted (rate network) (rate-at moves) r
+      rates-are = border-at (from-link-at moves) counted (rate network) (rate-at moves) r
 
       pub link-same : (i : ℕ) → i < link_count network → h.has-link i ≡ true → link_row links rates half i ≡ link_numbers network first plan h i
       unfolding link_row link_numbers raised
@@ -147,11 +147,11 @@ module _ {network : List Line} (holds : Hold (network_checks network)) {set : �
 
       volumes-into : {into : List ℕ} → Bordered movements half.links c.movements 1 (moved_in c line) into → (i : ℕ) → i < link_count network → get_or into i 0 ≡ border_in network first plan n i
       unfolding crossing_into
-      volumes-into = border-is (to-link-at moves) counted.movements (moved network plan n) moved-is
+      volumes-into = border-at (to-link-at moves) counted.movements (moved network plan n) moved-is
 
       volumes-from : {from : List ℕ} → Bordered movements half.links c.movements 0 (moved_in c line) from → (i : ℕ) → i < link_count network → get_or from i 0 ≡ border_out network first plan n i
       unfolding crossing_from
-      volumes-from = border-is (from-link-at moves) counted.movements (moved network plan n) moved-is
+      volumes-from = border-at (from-link-at moves) counted.movements (moved network plan n) moved-is
 
       -- the `S` line: no sum is too large for a field
       pub step_row : {step into : List ℕ} → StepNumbers network n step → Bordered movements half.links c.movements 1 (moved_in c line) into

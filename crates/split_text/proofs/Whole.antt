@@ -6,7 +6,7 @@ use Rattle.text_writer.specs.Records.{record_text, record_texts}
 use Rattle.base_laws.specs.Test.{within}
 use Rattle.model.specs.Network.{max_links, max_signals, max_trams, link_count, signal_count, movement_count, step_count, tram_count}
 use Rattle.model.specs.Rules.{valid_phases}
-use Rattle.model.specs.Table.{is_form, letter_n, letter_t, letter_g, letter_q, letter_m, letter_s}
+use Rattle.model.specs.Table.{letter_n, letter_t, letter_g, letter_q, letter_m, letter_s}
 use Rattle.base_laws.proofs.Tests.{and_right}
 use Rattle.model.proofs.Accepted.{ValidNetwork, valid-network}
 use Rattle.model.proofs.Limits.{link-limits}
@@ -16,27 +16,28 @@ use Rattle.network_tables.specs.Places.{Few}
 use Rattle.network_tables.specs.Fields.{rate_in}
 use Rattle.network_tables.specs.Tables.{CountsHold, TramTable}
 use Rattle.network_tables.proofs.Tables.{signal-of-at}
+use Rattle.network_writer.specs.declared.Output.{Output}
 use Rattle.network_writer.specs.Put.{longest, Put, Early}
 use Rattle.network_writer.specs.Texts.{line_texts}
 use Rattle.network_writer.proofs.Put.{puts-more}
-use Rattle.network_writer.proofs.Texts.{put_first}
 use Rattle.model_text.specs.NetworkText.{count_numbers, network_text}
 use Rattle.model_text.proofs.Formed.{Formed, formed-of-holds}
 use Rattle.model_split.specs.Numbering.{rank, picked}
 use Rattle.model_split.specs.Halves.{Half, inside, follows, tram_numbers, signal_numbers, movement_numbers, link_numbers, step_numbers, half_numbers, half_network_text}
 use Rattle.model_split.specs.Call.{in_set}
-use Rattle.model_split.proofs.Numbering.{picked-length}
+use Rattle.model_split.proofs.Numbering.{picked-length, rank-le}
 use Rattle.split_tables.specs.declared.Whole.{Whole}
 use Rattle.split_tables.specs.declared.HalfTables.{HalfTables}
 use Rattle.split_tables.specs.Whole.{whole_network, whole_plan}
 use Rattle.split_tables.specs.Tables.{is_in, HalfNumbered}
 use Rattle.split_tables.proofs.Tables.{half-has-link, half-has-signal, half-has-movement}
 use Rattle.split_tables.proofs.Ends.{movements-there}
-use Rattle.split_tables.proofs.Numbering.{rank-ext}
+use Rattle.split_tables.proofs.Items.{rank-ext}
 use Rattle.split_text.specs.Border.{Bordered}
-use Rattle.split_text.specs.Rows.{count_row, tram_in, tram_row, signal_row, link_row, movement_row, TramsAsked, SignalsAsked, LinksAsked, MovementsAsked}
+use Rattle.split_text.specs.Rows.{count_row, tram_in, tram_row, signal_row, link_row, movement_row, CountsAsked, TramsAsked, SignalsAsked, LinksAsked, MovementsAsked}
 use Rattle.split_text.proofs.Picked.{picked_same, picked-texts}
-use Rattle.split_text.specs.Halves.{OneHalf, Held, StepsPut, NetworkAsked, NetworkPut}
+use Rattle.split_text.specs.Halves.{OneHalf, Held, StepsAsked, StepsPut, NetworkAsked, NetworkPut}
+use Rattle.split_text.proofs.Steps.{put-at-first}
 use Rattle.split_text.proofs.Same.{named-signal, tram-follows, tram-same, movement-same, link-same}
 
 -- the `N` line
@@ -75,29 +76,30 @@ module _ {whole : Whole} {half : HalfTables} (a : NetworkAsked whole half) where
   formed : Formed net
   formed = formed-of-holds net held.holds
 
-  pub trams-asked : {trams : List Tram} → TramTable net trams → TramsAsked trams counts.trams
+  pub trams-asked : {trams : List Tram} → TramTable net trams → TramsAsked trams
   trams-asked t =
       let c = held.counted in
       record {
-        size = t.size;
-        few = few.trams;
-        signals = λ k l. omega (arith, ap (λ (x : Tram). x.signal) (t.holds k (omega (arith, c.trams))), named-signal held.holds a.asked.one k (omega (arith, c.trams)), c.signals, few.signals);
+        few = omega (arith, t.size, c.trams, few.trams);
+        signals = λ k l. omega (arith, ap (λ (x : Tram). x.signal) (t.holds k (omega (arith, t.size))), named-signal held.holds a.asked.one k (omega (arith, t.size)), c.signals, few.signals);
       }
 
-  signals-asked : {at : ℕ} → Early counts.signals at → SignalsAsked whole at
-  unfolding is_form valid_phases within
+  pub counts-ready : {trams : List Tram} → TramTable net trams → {found : ℕ} → found ≡ rank (tram_in trams half) (length trams) → CountsAsked counts found
+  counts-ready {trams} t e = record { few = few; few-trams = omega (arith, e, rank-le (tram_in trams half) (length trams), t.size, held.counted.trams, few.trams) }
+
+  signals-asked : {output : Output} → Early counts.signals output → SignalsAsked whole output
+  unfolding valid_phases within
   signals-asked e =
       let c = held.counted in
       record {
-        starts = a.signals-start;
+        few = few.signals;
         size = held.signal-table.size;
-        phases = λ r l. ap (λ s. s.phases) (held.signal-table.holds r (omega (arith, c.signals)));
+        holds = λ r l. held.signal-table.holds r (omega (arith, c.signals));
         few-phases = λ r l. leb-true _ _ (and_right _ _ (valid.phases r (omega (arith, c.signals))));
-        forms = λ r l. formed.signal-forms r (omega (arith, c.signals));
         early = e;
       }
 
-  links-asked : {at : ℕ} → Early counts.links at → LinksAsked whole.tables at
+  links-asked : {output : Output} → Early counts.links output → LinksAsked whole.tables output
   links-asked e =
       let c = held.counted in
       record {
@@ -106,41 +108,48 @@ module _ {whole : Whole} {half : HalfTables} (a : NetworkAsked whole half) where
       }
 
   -- ---- there are few lines before each block
-  module _ {t₁ old o₁ : List ℕ} {e₁ : ℕ} (p₁ : Put 1 t₁ 0 old o₁ e₁) where
-    pub trams-ready : {trams : List Tram} → TramTable net trams → TramsAsked trams counts.trams × Early counts.trams e₁
-    trams-ready t = (trams-asked t, omega (arith, p₁.ends, p₁.few, few.trams))
+  module _ {old : Output} (first : old.at ≡ 0) {t₁ : List ℕ} {o₁ : Output} (p₁ : Put 1 t₁ old o₁) {trams : List Tram} (loaded : TramTable net trams) where
+    few-here : length trams ≤ max_trams
+    few-here = omega (arith, loaded.size, held.counted.trams, few.trams)
 
-    module _ {t₂ o₂ : List ℕ} {e₂ : ℕ} (p₂ : Put counts.trams t₂ e₁ o₁ o₂ e₂) where
-      pub signals-ready : SignalsAsked whole e₂
-      signals-ready = signals-asked (omega (arith, p₁.ends, p₁.few, p₂.ends, p₂.few, few.trams, few.signals))
+    pub trams-ready : TramsAsked trams × Early (length trams) o₁
+    trams-ready = (trams-asked loaded, omega (arith, first, p₁.ends, p₁.few, few-here))
 
-      module _ {t₃ o₃ : List ℕ} {e₃ : ℕ} (p₃ : Put counts.signals t₃ e₂ o₂ o₃ e₃) where
-        pub links-ready : LinksAsked whole.tables e₃
-        links-ready = links-asked (omega (arith, p₁.ends, p₁.few, p₂.ends, p₂.few, p₃.ends, p₃.few, few.trams, few.signals, few.links))
+    module _ {t₂ : List ℕ} {o₂ : Output} (p₂ : Put (length trams) t₂ o₁ o₂) where
+      pub signals-ready : SignalsAsked whole o₂
+      signals-ready = signals-asked (omega (arith, first, p₁.ends, p₁.few, p₂.ends, p₂.few, few-here, few.signals))
 
-        module _ {t₄ o₄ : List ℕ} {e₄ : ℕ} (p₄ : Put counts.links t₄ e₃ o₃ o₄ e₄) where
-          before-movements : e₄ ≤ longest * (1 + max_trams + max_signals + max_links)
-          before-movements = omega (arith, p₁.ends, p₁.few, p₂.ends, p₂.few, p₃.ends, p₃.few, p₄.ends, p₄.few, few.trams, few.signals, few.links)
+      module _ {t₃ : List ℕ} {o₃ : Output} (p₃ : Put counts.signals t₃ o₂ o₃) where
+        pub links-ready : LinksAsked whole.tables o₃
+        links-ready = links-asked (omega (arith, first, p₁.ends, p₁.few, p₂.ends, p₂.few, p₃.ends, p₃.few, few-here, few.signals, few.links))
 
-          pub movements-ready : MovementsAsked whole.tables e₄
+        module _ {t₄ : List ℕ} {o₄ : Output} (p₄ : Put counts.links t₄ o₃ o₄) where
+          before-movements : o₄.at ≤ longest * (1 + max_trams + max_signals + max_links)
+          before-movements = omega (arith, first, p₁.ends, p₁.few, p₂.ends, p₂.few, p₃.ends, p₃.few, p₄.ends, p₄.few, few-here, few.signals, few.links)
+
+          pub movements-ready : MovementsAsked whole.tables o₄
           movements-ready = record { table-asked = movements-there (whole_network whole) held.holds whole.tables held.counted held.movement-table; early = omega (arith, before-movements, few.movements) }
 
+          pub steps-ready : {t₅ : List ℕ} {o₅ : Output} → Put counts.movements t₅ o₄ o₅ → StepsAsked whole half o₅
+          steps-ready p₅ = record { asked = a.asked; starts = a.steps-start; early = omega (arith, before-movements, p₅.ends, p₅.few, few.movements, few.steps) }
+
   -- ---- all blocks, one behind another
-  module _ {rates : List ℕ} (b : Bordered whole.tables.movements.now half.links counts.movements 0 (rate_in whole.tables.movements.now) rates) {trams : List Tram} (loaded : TramTable net trams) {count e₁ e₂ e₃ e₄ e₅ end : ℕ} {old o₁ o₂ o₃ o₄ o₅ new : List ℕ}
-      (found : count ≡ rank (tram_in trams half) counts.trams)
-      (p₁ : Put 1 (record_text letter_n (count_row counts count half)) 0 old o₁ e₁)
-      (p₂ : Put counts.trams (line_texts letter_t (picked counts.trams (tram_in trams half) (tram_row trams half))) e₁ o₁ o₂ e₂)
-      (p₃ : Put counts.signals (line_texts letter_g (picked counts.signals (is_in half.signals) (signal_row net))) e₂ o₂ o₃ e₃)
-      (p₄ : Put counts.links (line_texts letter_q (picked counts.links (is_in half.links) (link_row whole.tables.links.now rates half))) e₃ o₃ o₄ e₄)
-      (p₅ : Put counts.movements (line_texts letter_m (picked counts.movements (is_in half.movements) (movement_row whole.tables.movements.now half))) e₄ o₄ o₅ e₅)
-      (p₆ : StepsPut whole half e₅ o₅ new end) where
+  module _ {rates : List ℕ} (b : Bordered whole.tables.movements.now half.links counts.movements 0 (rate_in whole.tables.movements.now) rates) {trams : List Tram} (loaded : TramTable net trams) {count : ℕ} {old o₁ o₂ o₃ o₄ o₅ new : Output}
+      (start : old.at ≡ 0)
+      (found : count ≡ rank (tram_in trams half) (length trams))
+      (p₁ : Put 1 (record_text letter_n (count_row counts count half)) old o₁)
+      (p₂ : Put (length trams) (line_texts letter_t (picked (length trams) (tram_in trams half) (tram_row trams half))) o₁ o₂)
+      (p₃ : Put counts.signals (line_texts letter_g (picked counts.signals (is_in half.signals) (signal_row net))) o₂ o₃)
+      (p₄ : Put counts.links (line_texts letter_q (picked counts.links (is_in half.links) (link_row whole.tables.links.now rates half))) o₃ o₄)
+      (p₅ : Put counts.movements (line_texts letter_m (picked counts.movements (is_in half.movements) (movement_row whole.tables.movements.now half))) o₄ o₅)
+      (p₆ : StepsPut whole half o₅ new) where
     module _ (set : ℕ) (h : Half) (one : OneHalf net set h half) where
       abbrev plan : List Line
       plan = whole_plan whole
 
-      trams-same : picked counts.trams (tram_in trams half) (tram_row trams half) ≡ picked (tram_count net) (follows net h) (tram_numbers net h)
+      trams-same : picked (length trams) (tram_in trams half) (tram_row trams half) ≡ picked (tram_count net) (follows net h) (tram_numbers net h)
       trams-same =
-          rw held.counted.trams
+          rw loaded.size
           (picked_same (tram_count net) _ _ _ _ (tram-follows held.holds one loaded) (tram-same held.holds one loaded))
 
       signals-same : picked counts.signals (is_in half.signals) (signal_row net) ≡ picked (signal_count net) h.has-signal (signal_numbers net h)
@@ -163,10 +172,10 @@ module _ {whole : Whole} {half : HalfTables} (a : NetworkAsked whole half) where
       unfolding count_numbers half_numbers
       counts_same =
           count-row-is one.numbered held.counted
-          (found ∙ rank-ext counts.trams (tram_in trams half) (follows net h) (λ k l. tram-follows held.holds one loaded k (omega (arith, held.counted.trams))) ∙ rw held.counted.trams (sym (picked-length (follows net h) (tram_numbers net h) (tram_count net))))
+          (found ∙ rank-ext (length trams) (tram_in trams half) (follows net h) (λ k l. tram-follows held.holds one loaded k (omega (arith, loaded.size))) ∙ rw loaded.size (sym (picked-length (follows net h) (tram_numbers net h) (tram_count net))))
 
       whole-text : record_text letter_n (count_row counts count half)
-          ++ (line_texts letter_t (picked counts.trams (tram_in trams half) (tram_row trams half))
+          ++ (line_texts letter_t (picked (length trams) (tram_in trams half) (tram_row trams half))
           ++ (line_texts letter_g (picked counts.signals (is_in half.signals) (signal_row net))
           ++ (line_texts letter_q (picked counts.links (is_in half.links) (link_row whole.tables.links.now rates half))
           ++ (line_texts letter_m (picked counts.movements (is_in half.movements) (movement_row whole.tables.movements.now half))
@@ -188,8 +197,8 @@ module _ {whole : Whole} {half : HalfTables} (a : NetworkAsked whole half) where
             picked-length (follows net h) (tram_numbers net h) (tram_count net),
           ) refl
 
-    pub all-put : NetworkPut whole half old new end
+    pub all-put : NetworkPut whole half old.out.now new.out.now new.at
     all-put set h one =
         let p = puts-more p₁ (puts-more p₂ (puts-more p₃ (puts-more p₄ (puts-more p₅ (p₆ set h one))))) in
         let e = whole-text set h one in
-        record { long = omega (arith, p.ends, ap length e); is = λ l. p.is l ∙ put_first _ old ∙ ap (λ (x : List ℕ). over x old) e }
+        record { long = omega (arith, start, p.ends, ap length e); is = λ l. p.is l ∙ put-at-first old start _ ∙ ap (λ (x : List ℕ). over x old.out.now) e }

@@ -4,11 +4,13 @@ use Rattle.base_search.specs.Checks.{Hold}
 use Rattle.text_reader.specs.Lines.{Line}
 use Rattle.text_reader.specs.Reading.{Starts}
 use Rattle.text_writer.specs.Records.{record_text, record_texts}
-use Rattle.model.specs.Network.{link_count, signal_count, movement_count, step_count, tram_line, signal_line, step_line}
+use Rattle.model.specs.Network.{link_count, signal_count, movement_count, step_count, tram_line, step_line}
 use Rattle.model.specs.Table.{is_form, letter_p, letter_s, network_checks}
 use Rattle.network_tables.specs.Tables.{CountsHold, LinkTable, MovementTable, SignalTable}
-use Rattle.network_writer.specs.declared.Places.{Places}
+use Rattle.network_writer.specs.declared.Output.{Output}
 use Rattle.network_writer.specs.Put.{Put, PutWhole, Early}
+use Rattle.plan_steps.specs.declared.Place.{Place}
+use Rattle.plan_steps.specs.Reading.{PlaceAt}
 use Rattle.plan_steps.specs.PlanLine.{PlanAt, LineGot}
 use Rattle.model_split.specs.Halves.{Half, first_half, second_half, step_numbers, plan_numbers, half_network_text, half_plan_text}
 use Rattle.model_split.specs.Call.{in_set, can_split, parts_signals}
@@ -16,7 +18,6 @@ use Rattle.split_tables.specs.declared.Whole.{Whole}
 use Rattle.split_tables.specs.declared.HalfTables.{HalfTables}
 use Rattle.split_tables.specs.Whole.{whole_network, whole_plan}
 use Rattle.split_tables.specs.Tables.{HalfNumbered}
-use Rattle.split_text.specs.declared.StepPlaces.{StepPlaces}
 
 -- one of the two halves of a network that can be split, by its tables
 pub record OneHalf (network : List Line) (set : ℕ) (h : Half) (half : HalfTables) : Type 0 where
@@ -47,47 +48,45 @@ pub record PlanAsked (whole : Whole) (half : HalfTables) : Type 0 where
   pub h : Half
   pub one : OneHalf (whole_network whole) set h half
 
-pub record PlanLineAsked (whole : Whole) (half : HalfTables) (places : Places) : Type 0 where
+pub record PlanLineAsked (whole : Whole) (half : HalfTables) (at : ℕ) (output : Output) : Type 0 where
   pub asked : PlanAsked whole half
   pub n : ℕ
   pub within : n < step_count (whole_network whole)
-  pub starts : PlanAt whole.plan.now places.line n
-  pub early : Early 1 places.at
+  pub starts : PlanAt whole.plan.now at n
+  pub early : Early 1 output
 
-abbrev pub LinePut : Whole → HalfTables → Places → List ℕ → List ℕ → Places → Type 0
-LinePut whole half places old new next =
-    (set : ℕ) (h : Half) → OneHalf (whole_network whole) set h half → (n : ℕ) → n < step_count (whole_network whole) → PlanAt whole.plan.now places.line n
-    → Put 1 (record_text letter_p (plan_numbers (whole_network whole) (in_set set) (whole_plan whole) h n)) places.at old new next.at
-    × PlanAt whole.plan.now next.line (suc n)
+abbrev pub LinePut : Whole → HalfTables → ℕ → Output → Output → ℕ → Type 0
+LinePut whole half at old new next =
+    (set : ℕ) (h : Half) → OneHalf (whole_network whole) set h half → (n : ℕ) → n < step_count (whole_network whole) → PlanAt whole.plan.now at n
+    → Put 1 (record_text letter_p (plan_numbers (whole_network whole) (in_set set) (whole_plan whole) h n)) old new
+    × PlanAt whole.plan.now next (suc n)
 
 -- ---- the `S` lines
-pub record StepAsked (whole : Whole) (half : HalfTables) (places : StepPlaces) : Type 0 where
+pub record StepAsked (whole : Whole) (half : HalfTables) (place : Place) (output : Output) : Type 0 where
   pub asked : PlanAsked whole half
-  pub n : ℕ
-  pub within : n < step_count (whole_network whole)
-  pub step-starts : Starts whole.network.now places.step (step_line (whole_network whole) n)
-  pub plan-starts : PlanAt whole.plan.now places.plan n
-  pub early : Early 1 places.at
+  pub within : place.boundary < step_count (whole_network whole)
+  pub at : PlaceAt whole.tables.text.now whole.plan.now place
+  pub early : Early 1 output
 
--- the `S` line of step n was put, and the next lines start at the places returned
-abbrev pub StepPut : Whole → HalfTables → StepPlaces → List ℕ → List ℕ → StepPlaces → Type 0
-StepPut whole half places old new next =
-    (set : ℕ) (h : Half) → OneHalf (whole_network whole) set h half → (n : ℕ) → n < step_count (whole_network whole)
-    → Starts whole.network.now places.step (step_line (whole_network whole) n) → PlanAt whole.plan.now places.plan n
-    → Put 1 (record_text letter_s (step_numbers (whole_network whole) (in_set set) (whole_plan whole) h n)) places.at old new next.at
-    × Starts whole.network.now next.step (step_line (whole_network whole) (suc n))
-    × PlanAt whole.plan.now next.plan (suc n)
+-- the `S` line of the step at the place was put, and the place is behind its lines
+abbrev pub StepPut : Whole → HalfTables → Place → Output → Output → Place → Type 0
+StepPut whole half place old new next =
+    (set : ℕ) (h : Half) → OneHalf (whole_network whole) set h half → place.boundary < step_count (whole_network whole)
+    → PlaceAt whole.tables.text.now whole.plan.now place
+    → Put 1 (record_text letter_s (step_numbers (whole_network whole) (in_set set) (whole_plan whole) h place.boundary)) old new
+    × PlaceAt whole.tables.text.now whole.plan.now next
+    × (next.boundary ≡ place.boundary + 1)
 
-pub record StepsAsked (whole : Whole) (half : HalfTables) (at : ℕ) : Type 0 where
+pub record StepsAsked (whole : Whole) (half : HalfTables) (output : Output) : Type 0 where
   pub asked : PlanAsked whole half
-  pub starts : Starts whole.network.now whole.tables.reading.steps_at (step_line (whole_network whole) 0)
-  pub early : Early whole.tables.reading.counts.steps at
+  pub starts : Starts whole.tables.text.now whole.tables.reading.steps_at (step_line (whole_network whole) 0)
+  pub early : Early whole.tables.reading.counts.steps output
 
-abbrev pub StepsPut : Whole → HalfTables → ℕ → List ℕ → List ℕ → ℕ → Type 0
-StepsPut whole half at old new end =
+abbrev pub StepsPut : Whole → HalfTables → Output → Output → Type 0
+StepsPut whole half old new =
     (set : ℕ) (h : Half) → OneHalf (whole_network whole) set h half
     → Put whole.tables.reading.counts.steps (record_texts letter_s whole.tables.reading.counts.steps (step_numbers (whole_network whole) (in_set set) (whole_plan whole) h))
-    at old new end
+    old new
 
 -- ---- the whole texts
 abbrev pub PlanPut : Whole → HalfTables → List ℕ → List ℕ → ℕ → Type 0
@@ -98,9 +97,8 @@ PlanPut whole half old new size =
 pub record NetworkAsked (whole : Whole) (half : HalfTables) : Type 0 where
   pub asked : PlanAsked whole half
   pub link-table : LinkTable (whole_network whole) whole.tables.links.now
-  pub trams-start : Starts whole.network.now whole.tables.reading.trams_at (tram_line (whole_network whole) 0)
-  pub signals-start : Starts whole.network.now whole.tables.reading.signals_at (signal_line (whole_network whole) 0)
-  pub steps-start : Starts whole.network.now whole.tables.reading.steps_at (step_line (whole_network whole) 0)
+  pub trams-start : Starts whole.tables.text.now whole.tables.reading.trams_at (tram_line (whole_network whole) 0)
+  pub steps-start : Starts whole.tables.text.now whole.tables.reading.steps_at (step_line (whole_network whole) 0)
 
 abbrev pub NetworkPut : Whole → HalfTables → List ℕ → List ℕ → ℕ → Type 0
 NetworkPut whole half old new size =

@@ -1,10 +1,8 @@
 -- The lines of a half by the program's tables, and what the functions that put them ask.
-use Rattle.std.specs.Prelude.{ℕ, ◌+◌, ◌*◌, ◌-◌, ◌≤◌, ◌<◌, ◌≡◌, Bool, true, not, cond, List, [], ◌∷◌, eqb, length, get_or}
+use Rattle.std.specs.Prelude.{ℕ, ◌+◌, ◌*◌, ◌-◌, ◌≤◌, ◌<◌, ◌≡◌, Bool, not, cond, List, [], ◌∷◌, eqb, length, get_or, Option, Some, None}
 use Rattle.text_reader.specs.Lines.{Line}
-use Rattle.text_reader.specs.Reading.{Starts}
 use Rattle.base_laws.specs.Indexed.{list}
 use Rattle.model.specs.Network.{max_signals, max_trams, entry, signal_line, signal}
-use Rattle.model.specs.Table.{is_form, letter_g}
 use Rattle.network_tables.specs.declared.Counts.{Counts}
 use Rattle.network_tables.specs.declared.Link.{Link}
 use Rattle.network_tables.specs.declared.Movement.{Movement}
@@ -12,8 +10,10 @@ use Rattle.network_tables.specs.declared.NetworkTables.{NetworkTables}
 use Rattle.network_tables.specs.declared.Tram.{Tram}
 use Rattle.network_tables.specs.Places.{Few}
 use Rattle.network_tables.specs.Fields.{tram_at, signal_at, capacity_in, travel_time_in, exit_rate_in, signal_in, phase_mask_in, standing_in, waiting_at_start_in, link_in, rate_in, share_in}
+use Rattle.network_writer.specs.declared.Output.{Output}
 use Rattle.network_writer.specs.Put.{Early}
 use Rattle.model_split.specs.Numbering.{rank}
+use Rattle.model_split.specs.Halves.{in_field}
 use Rattle.split_tables.specs.declared.Whole.{Whole}
 use Rattle.split_tables.specs.declared.HalfTables.{HalfTables}
 use Rattle.split_tables.specs.Whole.{whole_network}
@@ -31,6 +31,12 @@ count_row counts trams half =
     rank (is_in half.links) counts.links ∷ rank (is_in half.signals) counts.signals ∷ rank (is_in half.movements) counts.movements ∷ counts.steps ∷ trams
     ∷ 0 ∷ []
 
+-- a tram as the half has it, if it follows its signal there
+unfoldable pub tram_kept : HalfTables → Tram → Option Tram
+tram_kept half tram =
+    cond (eqb (signal_number_in half tram.signal) 0) None
+    (Some (record { signal = signal_number_in half tram.signal; phase = tram.phase; first_step = tram.first_step; last_step = tram.last_step }))
+
 -- `T` line k follows its signal into the half; its numbers there
 unfoldable pub tram_in : List Tram → HalfTables → ℕ → Bool
 tram_in trams half k = not (eqb (signal_number_in half (tram_at trams k).signal) 0)
@@ -38,6 +44,32 @@ tram_in trams half k = not (eqb (signal_number_in half (tram_at trams k).signal)
 unfoldable pub tram_row : List Tram → HalfTables → ℕ → List ℕ
 tram_row trams half k =
     signal_number_in half (tram_at trams k).signal ∷ (tram_at trams k).phase ∷ (tram_at trams k).first_step ∷ (tram_at trams k).last_step ∷ []
+
+-- a link and a movement as the half has them, if they are there
+unfoldable pub link_kept : List ℕ → HalfTables → ℕ → Link → Option Link
+link_kept rates half i link =
+    cond (eqb (get_or half.links i 0) 0) None
+    (Some
+    (record {
+      capacity = link.capacity;
+      travel_time = link.travel_time;
+      exit_rate = in_field (link.exit_rate + get_or rates i 0);
+      signal = signal_number_in half link.signal;
+      phase_mask = link.phase_mask;
+      standing = link.standing;
+      waiting = link.waiting;
+    }))
+
+unfoldable pub movement_kept : HalfTables → ℕ → Movement → Option Movement
+movement_kept half j movement =
+    cond (eqb (get_or half.movements j 0) 0) None
+    (Some
+    (record {
+      from = get_or half.links (movement.from - 1) 0;
+      to = get_or half.links (movement.to - 1) 0;
+      rate = movement.rate;
+      share = movement.share;
+    }))
 
 -- the `G` line of signal r, the `Q` line of link i, the `M` line of movement j
 unfoldable pub signal_row : List Line → ℕ → List ℕ
@@ -57,26 +89,23 @@ pub record CountsAsked (counts : Counts) (trams : ℕ) : Type 0 where
   pub few : Few counts
   pub few-trams : trams ≤ max_trams
 
--- so many trams, which name signals
-pub record TramsAsked (trams : List Tram) (count : ℕ) : Type 0 where
-  pub size : length trams ≡ max_trams
-  pub few : count ≤ max_trams
-  pub signals : (k : ℕ) → k < count → (tram_at trams k).signal ≤ max_signals
+-- trams that name signals
+pub record TramsAsked (trams : List Tram) : Type 0 where
+  pub few : length trams ≤ max_trams
+  pub signals : (k : ℕ) → k < length trams → (tram_at trams k).signal ≤ max_signals
 
--- `G` lines that have passed, and the table of their signals
-pub record SignalsAsked (whole : Whole) (at : ℕ) : Type 0 where
-  pub starts : Starts whole.network.now whole.tables.reading.signals_at (signal_line (whole_network whole) 0)
+-- the table of the signals before the plan
+pub record SignalsAsked (whole : Whole) (output : Output) : Type 0 where
+  pub few : whole.tables.reading.counts.signals ≤ max_signals
   pub size : length whole.signals.now ≡ max_signals
-  pub phases : (r : ℕ) → r < whole.tables.reading.counts.signals → (signal_at whole.signals.now r).phases ≡ (signal (whole_network whole) r).phases
+  pub holds : (r : ℕ) → r < whole.tables.reading.counts.signals → signal_at whole.signals.now r ≡ signal (whole_network whole) r
   pub few-phases : (r : ℕ) → r < whole.tables.reading.counts.signals → (signal (whole_network whole) r).phases ≤ 8
-  pub forms : (r : ℕ) → r < whole.tables.reading.counts.signals
-      → is_form (whole_network whole) (signal_line (whole_network whole) r) letter_g (6 + 2 * (signal (whole_network whole) r).phases) ≡ true
-  pub early : Early whole.tables.reading.counts.signals at
+  pub early : Early whole.tables.reading.counts.signals output
 
-pub record LinksAsked (tables : NetworkTables) (at : ℕ) : Type 0 where
+pub record LinksAsked (tables : NetworkTables) (output : Output) : Type 0 where
   pub signals : (i : ℕ) → i < tables.reading.counts.links → signal_in tables.links.now i ≤ max_signals
-  pub early : Early tables.reading.counts.links at
+  pub early : Early tables.reading.counts.links output
 
-pub record MovementsAsked (tables : NetworkTables) (at : ℕ) : Type 0 where
+pub record MovementsAsked (tables : NetworkTables) (output : Output) : Type 0 where
   pub table-asked : numbering.MovementsAsked tables.movements.now tables.reading.counts.movements
-  pub early : Early tables.reading.counts.movements at
+  pub early : Early tables.reading.counts.movements output

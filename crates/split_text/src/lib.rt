@@ -1,75 +1,52 @@
-// The texts of one half of a network and of a plan (T-14), written by the half's tables: the numbers of what is in the half, in
+// The texts of one half of a network and of a plan (T-14), put by the half's tables: the numbers of what is in the half, in
 // their old order, with those of border movements added. Lines are written as far as there is room; where a text would end is
 // returned in any case.
 #![tactic(auto)]
 
-ghost use Rattle.std.specs.Prelude.{◌≡◌, ℕ, cond, not, [], ◌∷◌, ◌+◌, ◌≤◌, ◌-◌, ◌<◌, eqb, length, get_or};
+ghost use Rattle.std.specs.Prelude.{◌≡◌, ℕ, ◌+◌, ◌≤◌, ◌-◌, ◌<◌, Bool, length, get_or};
 ghost use Rattle.text_writer.specs.Records.{record_text};
-ghost use Rattle.model.specs.Network.{max_signals};
+ghost use Rattle.model.specs.Network.{max_links, max_signals, max_movements};
 ghost use Rattle.model.specs.Table.{letter_n, letter_t, letter_g, letter_q, letter_m};
-ghost use Rattle.network_tables.specs.Fields.{line_size};
-ghost use Rattle.model_split.specs.Numbering.{rank, picked};
+ghost use Rattle.model_split.specs.Numbering.{picked};
 ghost use Rattle.model_split.specs.Halves.{in_field};
 ghost use Rattle.network_writer.specs.Put.{Put, Early};
 ghost use Rattle.network_writer.specs.Texts.{line_texts};
 ghost use Rattle.split_tables.specs.Whole.{whole_network};
-ghost use Rattle.split_tables.specs.Tables.{is_in};
+ghost use Rattle.split_tables.specs.Tables.{is_in, LinksNamed};
+ghost use Rattle.split_tables.specs.Items.{Asks, Gives};
 ghost use Rattle.plan_steps.specs.PlanLine.{LineAsked};
 ghost use Rattle.split_text.specs.Halves.{PlanLineRead, StepAsked, StepPut, StepsAsked, StepsPut, PlanAsked, PlanLineAsked, LinePut, PlanPut, NetworkAsked, NetworkPut};
-ghost use Rattle.split_text.specs.Rows.{signal_number_in, count_row, tram_in, tram_row, signal_row, link_row, movement_row, CountsAsked, TramsAsked, SignalsAsked, LinksAsked, MovementsAsked};
+ghost use Rattle.split_text.specs.Rows.{signal_number_in, count_row, tram_kept, tram_in, tram_row, signal_row, link_kept, link_row, movement_kept, movement_row, CountsAsked, TramsAsked, SignalsAsked, LinksAsked, MovementsAsked};
+ghost use Rattle.split_text.specs.Filling.{Filled, FilledMost, FillAsked};
 ghost use Rattle.split_text.specs.Border.{side_number, end_on, added_at, BorderAsked, Bordered};
-ghost use Rattle.split_text.specs.Filling.{Asks, Gives, Filled, FillAsked};
 
+use model::SIGNAL_FIELDS;
 use network_tables::{
-    Counts, LINE_SIZE, MAX_LINKS, MAX_TRAMS, Movement, NetworkTables, SIGNAL_FIELDS, STEP_SIZE,
-    Tram,
+    Counts, LINE_SIZE, Link, MAX_LINKS, MAX_TRAMS, Movement, NetworkTables, STEP_SIZE, Tram,
 };
-use network_writer::Places;
+use network_writer::Output;
+use plan_steps::Place;
 use split_tables::{HalfTables, Whole};
 
-// Writes the line if its item belongs to this half.
-fn put_kept(number: u32, letter: u8, row: &[u32], out: &mut [u8], at: usize) -> usize
-    requires { (length row.now ≤ line_size) × Early 1 at }
-    ensures { Put 1 (line_texts letter (cond (not (eqb number 0)) (row.now ∷ []) [])) at out.old out.new result }
-{
-    if number == 0 {
-        return at;
-    }
-    network_writer::put_line(letter, row, out, at)
-}
-
-// The new number of a signal, from 1; 0 for none.
-fn signal_number(half: &HalfTables, signal: usize) -> u32
+// The new number of a signal, from 1; 0 for none, as a `Q` line has it.
+fn signal_number(half: &HalfTables, signal: u32) -> u32
     requires { signal ≤ max_signals }
     ensures { result ≡ signal_number_in half.now signal }
 {
     if signal == 0 {
         return 0;
     }
-    half.signals[signal - 1]
+    half.signals[signal as usize - 1]
 }
 
-// How many `T` lines follow their signal into the half.
-fn count_trams(trams: &[Tram], count: usize, half: &HalfTables) -> usize
-    requires { TramsAsked trams.now count }
-    ensures { (result ≡ rank (tram_in trams.now half.now) count) × (result ≤ count) }
+// Puts the `N` line. A count is far below 2 ^ 32: no cast loses anything.
+fn put_counts(counts: Counts, trams: usize, half: &HalfTables, output: &mut Output)
+    requires { CountsAsked counts trams × Early 1 output.old }
+    ensures { Put 1 (record_text letter_n (count_row counts trams half.now)) output.old output.new }
 {
-    let mut found = 0;
-    for k in 0..count {
-        let number = signal_number(half, trams[k].signal as usize);
-        found += usize::from(number != 0);
-    }
-    found
-}
-
-// Writes the `N` line. A count is far below 2 ^ 32: no cast loses anything.
-fn put_counts(counts: Counts, trams: usize, half: &HalfTables, out: &mut [u8]) -> usize
-    requires { CountsAsked counts trams }
-    ensures { Put 1 (record_text letter_n (count_row counts trams half.now)) 0 out.old out.new result }
-{
-    let links = split_tables::count_in(&half.links, counts.links);
-    let signals = split_tables::count_in(&half.signals, counts.signals);
-    let movements = split_tables::count_in(&half.movements, counts.movements);
+    let links = split_tables::count_in(&half.links[..counts.links]);
+    let signals = split_tables::count_in(&half.signals[..counts.signals]);
+    let movements = split_tables::count_in(&half.movements[..counts.movements]);
     let row = [
         links as u32,
         signals as u32,
@@ -78,88 +55,98 @@ fn put_counts(counts: Counts, trams: usize, half: &HalfTables, out: &mut [u8]) -
         trams as u32,
         0,
     ];
-    network_writer::put_line(b'N', &row, out, 0)
+    output.put_line(b'N', &row);
 }
 
-// Writes the `T` lines that follow their signal into the half.
-fn put_trams(trams: &[Tram], count: usize, half: &HalfTables, out: &mut [u8], at: usize) -> usize
-    requires { TramsAsked trams.now count × Early count at }
-    ensures { Put count (line_texts letter_t (picked count (tram_in trams.now half.now) (tram_row trams.now half.now))) at out.old out.new result }
+// A tram as the half has it, if it follows its signal there.
+fn tram_kept(tram: Tram, half: &HalfTables) -> Option<Tram>
+    requires { tram.signal ≤ max_signals }
+    ensures { result ≡ tram_kept half.now tram }
 {
-    let mut next = at;
-    for k in 0..count {
-        let tram = trams[k];
-        let number = signal_number(half, tram.signal as usize);
-        let row = [number, tram.phase, tram.first_step, tram.last_step];
-        next = put_kept(number, b'T', &row, out, next);
+    let signal = signal_number(half, tram.signal);
+    if signal == 0 {
+        return None;
     }
-    next
+    Some(Tram { signal, ..tram })
 }
 
-// Writes the `G` lines of the half's signals as they are; the table of all signals says how many phases each has.
-fn put_signals(whole: &Whole, half: &HalfTables, out: &mut [u8], at: usize) -> usize
-    requires { SignalsAsked whole.now at }
-    ensures { Put whole.now.tables.reading.counts.signals (line_texts letter_g (picked whole.now.tables.reading.counts.signals (is_in half.now.signals) (signal_row (whole_network whole.now)))) at out.old out.new result }
+// Puts the `T` lines that follow their signal into the half.
+fn put_trams(trams: &[Tram], half: &HalfTables, output: &mut Output)
+    requires { TramsAsked trams.now × Early (length trams.now) output.old }
+    ensures { Put (length trams.now) (line_texts letter_t (picked (length trams.now) (tram_in trams.now half.now) (tram_row trams.now half.now))) output.old output.new }
 {
-    let reading = whole.tables.reading;
-    let mut row = [0u32; SIGNAL_FIELDS];
-    let mut line = reading.signals_at;
-    let mut end = at;
-    for k in 0..reading.counts.signals {
-        let width = 6 + 2 * whole.signals[k].phases as usize;
-        line = network_tables::read_again(whole.network, line, b'G', &mut row, width);
-        end = put_kept(half.signals[k], b'G', &row[..width], out, end);
-    }
-    end
+    output.put_rows(b'T', trams, |_, tram| tram_kept(tram, half));
 }
 
-// Writes the `Q` lines of the half's links, with the rates of border movements added to their exit rates.
+// Puts the `G` lines of the half's signals as they are.
+fn put_signals(whole: &Whole, half: &HalfTables, output: &mut Output)
+    requires { SignalsAsked whole.now output.old }
+    ensures { Put whole.now.tables.reading.counts.signals (line_texts letter_g (picked whole.now.tables.reading.counts.signals (is_in half.now.signals) (signal_row (whole_network whole.now)))) output.old output.new }
+{
+    for r in 0..whole.tables.reading.counts.signals {
+        if half.signals[r] != 0 {
+            let signal = whole.signals[r];
+            let row = <[u32; SIGNAL_FIELDS]>::from(&signal);
+            output.put_line(b'G', &row[..signal.width()]);
+        }
+    }
+}
+
+// A link as the half has it, if it is there: the rates of border movements are added to its exit rate.
+fn link_kept(i: usize, link: Link, rates: &[u64; MAX_LINKS], half: &HalfTables) -> Option<Link>
+    requires { (i < max_links) × (link.signal ≤ max_signals) }
+    ensures { result ≡ link_kept rates.now half.now i link }
+{
+    if half.links[i] == 0 {
+        return None;
+    }
+    Some(Link {
+        exit_rate: raised(link.exit_rate, rates[i]),
+        signal: signal_number(half, link.signal),
+        ..link
+    })
+}
+
+// Puts the `Q` lines of the half's links.
 fn put_links(
     tables: &NetworkTables,
     rates: &[u64; MAX_LINKS],
     half: &HalfTables,
-    out: &mut [u8],
-    at: usize,
-) -> usize
-    requires { LinksAsked tables.now at }
-    ensures { Put tables.now.reading.counts.links (line_texts letter_q (picked tables.now.reading.counts.links (is_in half.now.links) (link_row tables.now.links.now rates.now half.now))) at out.old out.new result }
+    output: &mut Output,
+)
+    requires { LinksAsked tables.now output.old }
+    ensures { Put tables.now.reading.counts.links (line_texts letter_q (picked tables.now.reading.counts.links (is_in half.now.links) (link_row tables.now.links.now rates.now half.now))) output.old output.new }
 {
-    let mut end = at;
-    for i in 0..tables.reading.counts.links {
-        let link = tables.links[i];
-        let row = [
-            link.capacity,
-            link.travel_time,
-            raised(link.exit_rate, rates[i]),
-            signal_number(half, link.signal as usize),
-            link.phase_mask,
-            link.standing,
-            link.waiting,
-        ];
-        end = put_kept(half.links[i], b'Q', &row, out, end);
-    }
-    end
+    let links = &tables.links[..tables.reading.counts.links];
+    output.put_rows(b'Q', links, |i, link| link_kept(i, link, rates, half));
 }
 
-// Writes the `M` lines of the movements inside the half.
-fn put_movements(tables: &NetworkTables, half: &HalfTables, out: &mut [u8], at: usize) -> usize
-    requires { MovementsAsked tables.now at }
-    ensures { Put tables.now.reading.counts.movements (line_texts letter_m (picked tables.now.reading.counts.movements (is_in half.now.movements) (movement_row tables.now.movements.now half.now))) at out.old out.new result }
+// A movement as the half has it, if it is inside.
+fn movement_kept(j: usize, movement: Movement, half: &HalfTables) -> Option<Movement>
+    requires { (j < max_movements) × LinksNamed movement }
+    ensures { result ≡ movement_kept half.now j movement }
 {
-    let mut end = at;
-    for j in 0..tables.reading.counts.movements {
-        let movement = tables.movements[j];
-        let from = movement.from as usize;
-        let to = movement.to as usize;
-        let row = [
-            half.links[from - 1],
-            half.links[to - 1],
-            movement.rate,
-            movement.share,
-        ];
-        end = put_kept(half.movements[j], b'M', &row, out, end);
+    if half.movements[j] == 0 {
+        return None;
     }
-    end
+    Some(Movement {
+        from: half.links[movement.from as usize - 1],
+        to: half.links[movement.to as usize - 1],
+        ..movement
+    })
+}
+
+// Puts the `M` lines of the movements inside the half.
+fn put_movements(tables: &NetworkTables, half: &HalfTables, output: &mut Output)
+    requires { MovementsAsked tables.now output.old }
+    ensures { Put tables.now.reading.counts.movements (line_texts letter_m (picked tables.now.reading.counts.movements (is_in half.now.movements) (movement_row tables.now.movements.now half.now))) output.old output.new }
+{
+    let movements = &tables.movements[..tables.reading.counts.movements];
+    output.put_rows(
+        b'M',
+        movements,
+        |j, movement| movement_kept(j, movement, half),
+    );
 }
 
 // A number with what the border adds to it. A sum too large for a field is the greatest number, so that the cast loses nothing.
@@ -171,12 +158,13 @@ fn raised(number: u32, sum: u64) -> u32
         .min(u64::from(u32::MAX)) as u32
 }
 
-// Adds the number of a movement that has one link in the half to the sum of a link, from 1.
-fn add_at(inside: u32, link: usize, number: u32, sums: &mut [u64])
+// Adds the number of a border movement to the sum of a link, from 1.
+#[tactic(auto, unfolding(crate::specs::Border::added_at))]
+fn add_at(border: bool, link: usize, number: u32, sums: &mut [u64])
     requires { (1 ≤ link) × (link ≤ length sums.old) × (get_or sums.old (link - 1) 0 ≤ 1_000_000_000_000) }
-    ensures { sums.new ≡ added_at inside link number sums.old }
+    ensures { sums.new ≡ added_at border link number sums.old }
 {
-    if inside == 1 {
+    if border {
         sums[link - 1] += u64::from(number);
     }
 }
@@ -212,51 +200,36 @@ fn add_border<F: Fn(usize) -> u32>(
 {
     let mut sums = [0; MAX_LINKS];
     for j in 0..tables.reading.counts.movements {
-        let inside = split_tables::links_in(tables.movements, &half.links, j);
-        let link = end_of(tables.movements[j], side) as usize;
-        add_at(inside, link, number_of(j), &mut sums);
+        let movement = tables.movements[j];
+        let border = split_tables::is_border(movement, &half.links);
+        let link = end_of(movement, side) as usize;
+        add_at(border, link, number_of(j), &mut sums);
     }
     sums
 }
 
-// Writes a value into a row if its item belongs to this half, and returns the place behind it.
-fn fill_one(number: u32, value: u32, row: &mut [u32], at: usize) -> usize
-    requires { (at < length row.old) × (length row.old ≤ 1000) }
-    ensures { Filled (cond (not (eqb number 0)) (value ∷ []) []) at row.old row.new result }
-{
-    if number == 0 {
-        return at;
-    }
-    row[at] = value;
-    at + 1
-}
-
-// Writes the values of the items of this half into a row, in their old order, and returns the place behind them. An item has its number in the half, 0 if absent.
-fn fill_kept<F: Fn(usize) -> u32>(
-    numbers: &[u32],
-    count: usize,
-    value_of: F,
-    row: &mut [u32],
+// Lent numbers of a line, and the place where the next is put.
+#[derive(Drop)]
+struct Row<'a> {
+    numbers: &'a mut [u32],
     at: usize,
-) -> usize
-    requires asked { FillAsked numbers.now count row.old at }
-    requires asks { Asks (F.pre value_of) count }
-    ensures within { result ≤ at + count }
-    ensures filled { (f : ℕ → ℕ) → Gives (F.post value_of) count f → Filled (picked count (is_in numbers.now) f) at row.old row.new result }
-{
-    let mut end = at;
-    for k in 0..count {
-        end = fill_one(numbers[k], value_of(k), row, end);
-    }
-    end
 }
 
-// Where the next `S` line and the next `P` line are read, and where the next line is put.
-#[derive(Clone, Copy)]
-pub struct StepPlaces {
-    pub step: usize,
-    pub plan: usize,
-    pub at: usize,
+impl Row<'_> {
+    // Puts the values of the items of this half in their old order. An item has its number in the half, 0 if absent.
+    fn put_kept<F: Fn(usize) -> u32>(&mut self, items: &[u32], value_of: F)
+        requires asked { FillAsked (length items.now) self.old }
+        requires asks { Asks (F.pre value_of) (length items.now) }
+        ensures most { FilledMost (length items.now) self.old self.new }
+        ensures filled { (f : ℕ → ℕ) → Gives (F.post value_of) (length items.now) f → Filled (picked (length items.now) (is_in items.now) f) self.old self.new }
+    {
+        for (k, item) in items.iter().enumerate() {
+            if *item != 0 {
+                self.numbers[self.at] = value_of(k);
+                self.at += 1;
+            }
+        }
+    }
 }
 
 // Reads the numbers of a `P` line that has passed into a line of zeros, and gives the place of the next. A plan without bytes has no such line, and is not to be
@@ -275,69 +248,80 @@ fn read_plan(whole: &Whole, at: usize, line: &mut [u32]) -> usize
     .unwrap_or(at)
 }
 
-// Writes the `S` line of the next step, with the volumes of border movements as demand.
-fn put_step(whole: &Whole, half: &HalfTables, places: StepPlaces, out: &mut [u8]) -> StepPlaces
-    requires { StepAsked whole.now half.now places }
-    ensures { StepPut whole.now half.now places out.old out.new result }
+// Puts the `S` line of the next step, with the volumes of border movements as demand, and gives the place of the lines behind it.
+fn put_step(whole: &Whole, half: &HalfTables, place: Place, output: &mut Output) -> Place
+    requires { StepAsked whole.now half.now place output.old }
+    ensures { StepPut whole.now half.now place output.old output.new result }
 {
-    let counts = whole.tables.reading.counts;
+    let tables = &whole.tables;
+    let counts = tables.reading.counts;
     let mut step = [0u32; STEP_SIZE];
     let mut line = [0u32; LINE_SIZE];
-    let mut row = [0u32; STEP_SIZE];
-    let width = 1 + counts.links;
-    let step_end = network_tables::read_again(whole.network, places.step, b'S', &mut step, width);
-    let plan_end = read_plan(whole, places.plan, &mut line);
+    let mut numbers = [0u32; STEP_SIZE];
+    let width = counts.step_width();
+    let step_at = network_tables::read_again(tables.text, place.step_at, b'S', &mut step, width);
+    let plan_at = read_plan(whole, place.plan_at, &mut line);
     let volume = |j| network_tables::moved(&line, counts, j);
-    let into = add_border(&whole.tables, half, Side::To, volume); // demand of the link that it enters
-    row[0] = step[0];
+    let into = add_border(tables, half, Side::To, volume); // demand of the link that it enters
+    numbers[0] = step[0];
     let demand = |i| raised(network_tables::demand(&step, i), into[i]);
-    let end = fill_kept(&half.links, counts.links, demand, &mut row, 1);
-    let at = network_writer::put_line(b'S', &row[..end], out, places.at);
-    StepPlaces {
-        step: step_end,
-        plan: plan_end,
-        at,
+    let mut row = Row {
+        numbers: &mut numbers,
+        at: 1,
+    };
+    row.put_kept(&half.links[..counts.links], demand);
+    let end = row.at;
+    output.put_line(b'S', &numbers[..end]);
+    Place {
+        boundary: place.boundary + 1,
+        step_at,
+        plan_at,
     }
 }
 
-// Writes the `P` line of the next step, with the volumes of border movements added to what is admitted and let out.
-fn put_plan_line(whole: &Whole, half: &HalfTables, places: Places, out: &mut [u8]) -> Places
-    requires { PlanLineAsked whole.now half.now places }
-    ensures { LinePut whole.now half.now places out.old out.new result }
+// Puts the `P` line of the next step, with the volumes of border movements added to what is admitted and let out, and gives the place of the line behind it.
+fn put_plan_line(whole: &Whole, half: &HalfTables, at: usize, output: &mut Output) -> usize
+    requires { PlanLineAsked whole.now half.now at output.old }
+    ensures { LinePut whole.now half.now at output.old output.new result }
 {
-    let counts = whole.tables.reading.counts;
+    let tables = &whole.tables;
+    let counts = tables.reading.counts;
     let mut line = [0u32; LINE_SIZE];
-    let mut row = [0u32; LINE_SIZE];
-    let next = read_plan(whole, places.line, &mut line);
+    let mut numbers = [0u32; LINE_SIZE];
+    let next = read_plan(whole, at, &mut line);
     let volume = |j| network_tables::moved(&line, counts, j);
-    let into = add_border(&whole.tables, half, Side::To, volume); // admitted on the link that it enters
-    let from = add_border(&whole.tables, half, Side::From, volume); // let out of the link that it leaves
+    let into = add_border(tables, half, Side::To, volume); // admitted on the link that it enters
+    let from = add_border(tables, half, Side::From, volume); // let out of the link that it leaves
     let mask = |r| line[r];
     let admitted = |i| raised(network_tables::admitted(&line, counts, i), into[i]);
     let let_out = |i| raised(network_tables::let_out(&line, counts, i), from[i]);
-    let end = fill_kept(&half.signals, counts.signals, mask, &mut row, 0);
-    let end = fill_kept(&half.links, counts.links, admitted, &mut row, end);
-    let end = fill_kept(&half.links, counts.links, let_out, &mut row, end);
-    let end = fill_kept(&half.movements, counts.movements, volume, &mut row, end);
-    let at = network_writer::put_line(b'P', &row[..end], out, places.at);
-    Places { line: next, at }
+    let mut row = Row {
+        numbers: &mut numbers,
+        at: 0,
+    };
+    row.put_kept(&half.signals[..counts.signals], mask);
+    row.put_kept(&half.links[..counts.links], admitted);
+    row.put_kept(&half.links[..counts.links], let_out);
+    row.put_kept(&half.movements[..counts.movements], volume);
+    let end = row.at;
+    output.put_line(b'P', &numbers[..end]);
+    next
 }
 
-// Writes the `S` lines.
-fn put_steps(whole: &Whole, half: &HalfTables, out: &mut [u8], at: usize) -> usize
-    requires { StepsAsked whole.now half.now at }
-    ensures { StepsPut whole.now half.now at out.old out.new result }
+// Puts the `S` lines.
+fn put_steps(whole: &Whole, half: &HalfTables, output: &mut Output)
+    requires { StepsAsked whole.now half.now output.old }
+    ensures { StepsPut whole.now half.now output.old output.new }
 {
     let reading = whole.tables.reading;
-    let mut places = StepPlaces {
-        step: reading.steps_at,
-        plan: 0,
-        at,
+    let mut place = Place {
+        boundary: 0,
+        step_at: reading.steps_at,
+        plan_at: 0,
     };
     for _ in 0..reading.counts.steps {
-        places = put_step(whole, half, places, out);
+        place = put_step(whole, half, place, output);
     }
-    places.at
 }
 
 // Writes the half's plan at the beginning of a buffer, as far as it fits, and returns its length.
@@ -345,11 +329,12 @@ pub fn put_plan(whole: &Whole, half: &HalfTables, out: &mut [u8]) -> usize
     requires { PlanAsked whole.now half.now }
     ensures { PlanPut whole.now half.now out.old out.new result }
 {
-    let mut places = Places { line: 0, at: 0 };
+    let mut output = Output { out, at: 0 };
+    let mut line = 0;
     for _ in 0..whole.tables.reading.counts.steps {
-        places = put_plan_line(whole, half, places, out);
+        line = put_plan_line(whole, half, line, &mut output);
     }
-    places.at
+    output.at
 }
 
 // Writes the half's network at the beginning of a buffer, as far as it fits, and returns its length.
@@ -360,15 +345,15 @@ pub fn put_network(whole: &Whole, half: &HalfTables, out: &mut [u8]) -> usize
     let tables = &whole.tables;
     let rate = |j| tables.movements[j].rate;
     let rates = add_border(tables, half, Side::From, rate); // exit rate of the link that it leaves
-    let reading = tables.reading;
-    let count = reading.counts.trams;
-    let mut trams = [Tram::default(); MAX_TRAMS];
-    network_trams::load_trams(whole.network, reading.trams_at, count, &mut trams);
-    let found = count_trams(&trams, count, half);
-    let end = put_counts(reading.counts, found, half, out);
-    let end = put_trams(&trams, count, half, out, end);
-    let end = put_signals(whole, half, out, end);
-    let end = put_links(tables, &rates, half, out, end);
-    let end = put_movements(tables, half, out, end);
-    put_steps(whole, half, out, end)
+    let mut room = [Tram::default(); MAX_TRAMS];
+    let trams = network_trams::load_trams(tables, &mut room);
+    let found = network_writer::count_rows(trams, |_, tram| tram_kept(tram, half));
+    let mut output = Output { out, at: 0 };
+    put_counts(tables.reading.counts, found, half, &mut output);
+    put_trams(trams, half, &mut output);
+    put_signals(whole, half, &mut output);
+    put_links(tables, &rates, half, &mut output);
+    put_movements(tables, half, &mut output);
+    put_steps(whole, half, &mut output);
+    output.at
 }

@@ -16,5 +16,8 @@ loop-i-preserved c = elim c.if-is_earlier.branch [
 pub returns-then-line-eq0 : goal.returns-then-line-eq0
 returns-then-line-eq0 c = search (found_nothing, rules)
 
+pub refusal-requires : goal.refusal-requires
+refusal-requires c = (search rules, omega (arith, c.loop-i.invariant.item-small, c.loop-i.auto.i-end, c.requires))
+
 pub returns : goal.returns
-returns c = search (found-told, rules)
+returns c = found-told c.loop-i.invariant (omega arith) c.if-line-eq0.false c.refusal.ensures

@@ -4,4 +4,4 @@ use Rattle.sheet_check.proofs.Call.{Passing}
 use Rattle.sheet_check.proofs.pass_plan.Given as goal
 
 abbrev pub invariant-loop : goal.invariant-loop
-invariant-loop l = (l.pass.boundary ≡ l.counter) × Passing l.network l.plan l.table l.pass l.signals
+invariant-loop l = (l.pass.place.boundary ≡ l.counter) × Passing l.run.tables.now.text.now l.plan l.table l.pass l.signals

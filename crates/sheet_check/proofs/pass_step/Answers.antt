@@ -1,20 +1,22 @@
 -- `sheet_check::pass_step` meets its contract.
-use Rattle.std.proofs.Common.{rules}
-use Rattle.base_laws.proofs.Kit.{refl, arith}
-use Rattle.sheet_check.proofs.Step.{time-few, tram-asked, seconds-few, step-never, advance-asked, step_gone}
+use Rattle.base_laws.proofs.Kit.{arith}
+use Rattle.sheet_check.proofs.Step.{read-asked, step-never, watch-asked, advance-asked, time-fits, step_gone}
 use Rattle.sheet_check.proofs.pass_step.Goals as goal
 
-pub returns-in_default : goal.returns-in_default
-returns-in_default c = step-never c.requires (search rules) c.read_again-step_at.ensures refl c.read_line-read.ensures c.in_default.is
+pub read_lines-requires : goal.read_lines-requires
+read_lines-requires c = read-asked c.requires c.cleared-said.ensures
 
-pub tram_phases-requires : goal.tram_phases-requires
-tram_phases-requires c = tram-asked c.requires
+pub returns-in_default : goal.returns-in_default
+returns-in_default c = step-never c.requires c.read_lines.ensures c.in_default.is
+
+pub watch_signals-requires : goal.watch_signals-requires
+watch_signals-requires c = watch-asked c.requires c.read_lines.ensures c.in-Some.is
 
 pub advance-requires : goal.advance-requires
-advance-requires c = advance-asked c.requires (search rules) c.read_again-step_at.ensures c.shown_phases.ensures c.tram_phases.ensures
+advance-requires c = advance-asked c.requires c.read_lines.ensures c.in-Some.is
 
-pub overflow_add-result-2 : goal.overflow_add-result-2
-overflow_add-result-2 c = omega (arith, time-few c.requires, seconds-few c.requires (search rules) c.read_again-step_at.ensures)
+pub overflow_add-result : goal.overflow_add-result
+overflow_add-result c = omega (arith, time-fits c.requires c.read_lines.ensures c.in-Some.is c.watch_signals.ensures)
 
 pub returns : goal.returns
-returns c = step_gone c.requires (search rules) c.read_again-step_at.ensures refl c.read_line-read.ensures c.in-Some.is c.shown_phases.ensures c.tram_phases.ensures refl c.watch_signals-watches.ensures c.advance.ensures refl
+returns c = step_gone c.requires c.read_lines.ensures c.in-Some.is c.watch_signals.ensures c.advance.ensures

@@ -1,13 +1,14 @@
+use Rattle.std.proofs.Common.{rules}
 use Rattle.base_laws.proofs.Kit.{arith}
-use Rattle.sheet_check.proofs.Watching.{watch-on, watched-more, watched-still}
+use Rattle.sheet_check.proofs.Watching.{watched-none, watched-more, watched-still}
 use Rattle.sheet_check.proofs.watch_signals.Goals as goal
-use Rattle.sheet_check.proofs.watch_signals.Goals.{then-asked-i-eq0, else-asked-i-eq0}
+use Rattle.sheet_check.proofs.watch_signals.Goals.{then-said-i-eq0, else-said-i-eq0}
+
+pub loop-i-init : goal.loop-i-init
+loop-i-init c = search (watched-none, rules)
 
 pub loop-i-preserved : goal.loop-i-preserved
-loop-i-preserved c =
-    let l = c.loop-i in
-    elim c.if-asked-i-eq0.branch [
-      | then-asked-i-eq0 w ↦ rw w.watches-is (watched-more _ _ _ _ _ _ _ l.i l.watches w.watch_after.result (omega arith) l.invariant w.duration_of-duration.result w.duration_of-duration.ensures
-          (watch-on _ _ _ _ _ _ _ w.if-asked-i-eq0.true _ w.watch_after.ensures))
-      | else-asked-i-eq0 w ↦ rw w.watches-is (watched-still _ _ _ _ _ _ _ l.i l.watches l.invariant w.if-asked-i-eq0.false)
-    ]
+loop-i-preserved c = elim c.if-said-i-eq0.branch [
+  | then-said-i-eq0 w ↦ rw w.pass-is (watched-more c.loop-i.invariant (omega (arith, c.loop-i-test.true, c.requires.few, c.requires.watches-size)) (rw w.duration_of-duration.ensures at w.watch_after.ensures) w.if-said-i-eq0.true)
+  | else-said-i-eq0 w ↦ rw w.pass-is (watched-still c.loop-i.invariant w.if-said-i-eq0.false)
+]

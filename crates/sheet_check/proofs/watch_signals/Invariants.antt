@@ -3,4 +3,4 @@ use Rattle.sheet_check.specs.Watch.{Watched}
 use Rattle.sheet_check.proofs.watch_signals.Given as goal
 
 abbrev pub invariant-loop-i : goal.invariant-loop-i
-invariant-loop-i l = Watched l.initial.watches l.signals l.i l.phases l.asked l.table l.line l.time l.watches
+invariant-loop-i l = Watched l.initial.pass l.signals l.i l.said l.table l.pass

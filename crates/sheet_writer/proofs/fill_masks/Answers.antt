@@ -1,21 +1,23 @@
-use Rattle.std.proofs.Common.{rules}
-use Rattle.base_laws.proofs.Kit.{arith}
-use Rattle.sheet_writer.proofs.Columns.{masks-none, masks-tram, masks-off, masks-next, masks-all}
+use Rattle.sheet_writer.proofs.Columns.{masks-none, cycle-there, column-wanted, masks-tram, masks-off, masks-next, masks-all}
 use Rattle.sheet_writer.proofs.fill_masks.Goals as goal
-use Rattle.sheet_writer.proofs.fill_masks.Goals.{then-not-has_no_tram-via-then-not-has_no_tram, then-not-has_no_tram-via-else-not-has_no_tram+then-not-fill_column}
 
 pub loop-r-init : goal.loop-r-init
-loop-r-init c = search (masks-none, rules)
+loop-r-init c = masks-none c.requires c.args.trams.now
 
 pub returns-then-not-has_no_tram : goal.returns-then-not-has_no_tram
-returns-then-not-has_no_tram c = elim c.then-not-has_no_tram.branch [
-  | then-not-has_no_tram-via-then-not-has_no_tram w ↦ rw w.masks-is (masks-tram c.requires.cycles_asked c.loop-r.invariant (omega arith) c.has_no_tram.ensures w.if-not-has_no_tram.true c.new.ensures)
-  | then-not-has_no_tram-via-else-not-has_no_tram+then-not-fill_column w ↦ rw w.masks-is
-      (masks-off c.requires.cycles_asked c.loop-r.invariant (omega arith) c.has_no_tram.ensures w.if-not-has_no_tram.false w.fill_column.ensures w.if-not-fill_column.true c.new.ensures)
-]
+returns-then-not-has_no_tram c = masks-tram c.requires c.args.trams.now c.loop-r.invariant c.loop-r-test.true c.has_no_tram.ensures c.if-not-has_no_tram.true c.refusal-refusal.ensures
+
+pub invariant_of-cycle : goal.invariant_of-cycle
+invariant_of-cycle c = record { fits = cycle-there c.requires c.args.trams.now c.loop-r.invariant c.loop-r-test.true }
+
+pub fill_column-requires : goal.fill_column-requires
+fill_column-requires c = column-wanted c.requires c.args.trams.now c.loop-r.invariant c.loop-r-test.true
+
+pub returns-in_err-ok_or : goal.returns-in_err-ok_or
+returns-in_err-ok_or c = ?
 
 pub loop-r-preserved : goal.loop-r-preserved
-loop-r-preserved c = masks-next c.requires.cycles_asked c.loop-r.invariant (omega arith) c.has_no_tram.ensures c.if-not-has_no_tram.false c.fill_column.ensures c.if-not-fill_column.false
+loop-r-preserved c = ?
 
 pub returns : goal.returns
-returns c = search (masks-all, rules)
+returns c = masks-all c.requires c.args.trams.now c.loop-r.invariant c.loop-r-test.false

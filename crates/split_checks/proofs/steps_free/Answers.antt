@@ -10,7 +10,7 @@ pub step_free-requires : goal.step_free-requires
 step_free-requires c = (free-asked c.requires c.args.half.now, c.read_again-line.ensures.size ∙ c.loop.invariant.room)
 
 pub returns-then-not-step_free : goal.returns-then-not-step_free
-returns-then-not-step_free c = steps-fail c.requires _ c.loop.invariant c.loop-test.true c.read_again-line.ensures c.step_free.ensures (search rules)
+returns-then-not-step_free c = steps-fail c.requires _ c.loop.invariant c.loop-test.true (rw c.step_width-width.ensures at c.read_again-line.ensures) c.step_free.ensures (search rules)
 
 pub loop-preserved : goal.loop-preserved
-loop-preserved c = steps_next c.requires _ c.loop.invariant c.loop-test.true c.read_again-line.ensures c.step_free.ensures (search rules)
+loop-preserved c = steps_next c.requires _ c.loop.invariant c.loop-test.true (rw c.step_width-width.ensures at c.read_again-line.ensures) c.step_free.ensures (search rules)

@@ -1,15 +1,18 @@
 use Rattle.std.proofs.Common.{rules}
-use Rattle.split_text.proofs.Steps.{plan-none, plan-line-asked, plan-next, plan-all}
+use Rattle.base_laws.proofs.Kit.{refl}
+use Rattle.split_text.proofs.Steps.{plan-none, plan-line-asked, plan-next, plan-all, put-back}
 use Rattle.split_text.proofs.put_plan.Goals as goal
 
 pub loop-init : goal.loop-init
-loop-init c = search plan-none
+loop-init c = plan-none c.requires
 
-pub put_plan_line-places-requires : goal.put_plan_line-places-requires
-put_plan_line-places-requires c = search (plan-line-asked, rules)
+pub put_plan_line-line-requires : goal.put_plan_line-line-requires
+put_plan_line-line-requires c = plan-line-asked c.requires c.loop.invariant c.loop-test.true refl
 
 pub loop-preserved : goal.loop-preserved
-loop-preserved c = search (plan-next, rules)
+loop-preserved c = plan-next c.requires c.loop.invariant c.loop-test.true c.put_plan_line-line.ensures
 
 pub returns : goal.returns
-returns c = plan-all c.requires c.loop.invariant (search rules)
+returns c = λ set h one.
+    let lent = (c.loop.invariant.put set h one).buffer in
+    put-back (plan-all c.requires c.loop.invariant refl (search rules) set h one) (search rules)

@@ -1,9 +1,17 @@
-use Rattle.base_laws.proofs.Kit.{refl}
-use Rattle.split_text.proofs.Lines.{signals-none, signals-next}
+use Rattle.split_text.proofs.Picked.{picks-none}
+use Rattle.split_text.proofs.Lines.{signals-more, signals-same}
 use Rattle.split_text.proofs.put_signals.Goals as goal
+use Rattle.split_text.proofs.put_signals.Goals.{then-half-r-ne0, else-half-r-ne0}
 
-pub loop-k-init : goal.loop-k-init
-loop-k-init c = signals-none c.requires _ _ refl
+pub loop-r-init : goal.loop-r-init
+loop-r-init c = picks-none _ _ _ _
 
-pub loop-k-preserved : goal.loop-k-preserved
-loop-k-preserved c = signals-next c.requires _ c.loop-k-test.true refl c.loop-k.invariant c.read_again-line.ensures c.put_kept-end.ensures
+pub loop-r-preserved : goal.loop-r-preserved
+loop-r-preserved c =
+    let h = c.loop-r-test.true in
+    let half = c.args.half.now in
+    let t = c.loop-r.invariant in
+    elim c.if-half-r-ne0.branch [
+      | then-half-r-ne0 w ↦ rw w.output-is (signals-more c.requires half h t w.if-half-r-ne0.true w.from-row.ensures w.width.ensures w.put_line.ensures)
+      | else-half-r-ne0 w ↦ rw w.output-is (signals-same c.requires half h t w.if-half-r-ne0.false)
+    ]

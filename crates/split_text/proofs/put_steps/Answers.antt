@@ -1,12 +1,15 @@
 use Rattle.std.proofs.Common.{rules}
-use Rattle.split_text.proofs.Steps.{steps-none, step-asked, steps_next}
+use Rattle.split_text.proofs.Steps.{steps-none, step-asked, steps_next, steps-all}
 use Rattle.split_text.proofs.put_steps.Goals as goal
 
 pub loop-init : goal.loop-init
-loop-init c = search steps-none
+loop-init c = steps-none c.requires
 
-pub put_step-places-requires : goal.put_step-places-requires
-put_step-places-requires c = search (step-asked, rules)
+pub put_step-place-requires : goal.put_step-place-requires
+put_step-place-requires c = step-asked c.requires c.loop.invariant c.loop-test.true
 
 pub loop-preserved : goal.loop-preserved
-loop-preserved c = search (steps_next, rules)
+loop-preserved c = steps_next c.requires c.loop.invariant c.loop-test.true c.put_step-place.ensures
+
+pub returns : goal.returns
+returns c = steps-all c.requires c.loop.invariant (search rules)

@@ -1,9 +1,13 @@
-use Rattle.split_text.proofs.Picked.{picks-none}
-use Rattle.split_text.proofs.Lines.{trams-next}
+-- `split_text::put_trams` meets its contract.
+use Rattle.std.proofs.Common.{rules}
+use Rattle.split_text.proofs.Lines.{tram-rows, tram-given, trams-put, tram-signal}
 use Rattle.split_text.proofs.put_trams.Goals as goal
 
-pub loop-k-init : goal.loop-k-init
-loop-k-init c = search picks-none
+pub put_rows-requires-clause-asks : goal.put_rows-requires-clause-asks
+put_rows-requires-clause-asks c = λ k none h. λ a b d e f. tram-signal c.args.trams.now c.requires.0 k none h
 
-pub loop-k-preserved : goal.loop-k-preserved
-loop-k-preserved c = trams-next _ _ _ c.signal_number-number.ensures c.loop-k.invariant c.put_kept-next.ensures
+pub returns : goal.returns
+returns c =
+    let trams = c.args.trams.now in
+    let half = c.args.half.now in
+    trams-put trams half (c.put_rows.ensures (tram-rows trams half) (λ k none changed h p. tram-given trams half k none h changed (search rules)))

@@ -32,4 +32,4 @@ next_state-requires c = next-asked c.requires c.read_lines.ensures c.in-Some.is 
 
 pub returns : goal.returns
 returns c = step-passed c.requires c.read_lines.ensures c.in-Some.is c.add_waiting.ensures c.next_arrivals.ensures (search rules) refl c.judge_step.ensures c.in_ok-judge_step.was
-    c.row_start.ensures c.write_row.ensures c.next_state.ensures
+    c.judge_step.auto.row c.row_start.ensures c.write_row.ensures c.next_state.ensures

@@ -1,13 +1,9 @@
--- `sheet_writer::next_run` meets its contract.
-use Rattle.std.proofs.Common.{rules}
-use Rattle.sheet_writer.proofs.Cycle.{next-on, next-over}
-use Rattle.base_laws.proofs.Kit.{arith}
-use Rattle.sheet_writer.proofs.next_run.Goals as goal
+-- `sheet_writer::Cycle::next_run` meets its contract.
+use Rattle.sheet_writer.proofs.Runs.{next-on, next-over}
+use Rattle.sheet_writer.proofs.Cycle.next_run.Goals as goal
 
 pub returns-then-seconds-run : goal.returns-then-seconds-run
-returns-then-seconds-run c = search (next-on, rules)
+returns-then-seconds-run c = next-on c.args.self.now.fits.line-held c.if-seconds-run.true
 
 pub returns : goal.returns
-returns c =
-    let pre = c.requires in
-    next-over pre.line-asked.line (omega arith) pre.fits c.phase_after-phase.ensures c.place_of-place.ensures
+returns c = next-over c.args.self.now.fits.line-held c.if-seconds-run.false c.requires.fits c.phase_after-phase.ensures c.place_of-place.ensures
