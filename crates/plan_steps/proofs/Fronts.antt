@@ -1,5 +1,5 @@
 -- The front of a table, which is lent without what stands behind it.
-use Rattle.base_laws.proofs.Kit.{ℕ, ◌-◌, ◌≡◌, sym, ap, List, arith, take}
+use Rattle.base_laws.proofs.Kit.{ℕ, ◌-◌, ◌≡◌, ap, List, arith, take}
 use Rattle.std.specs.List.{slice_range}
 
 -- its part from the first item on

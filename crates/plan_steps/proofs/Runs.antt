@@ -1,5 +1,5 @@
 -- The steps of a plan, taken one after another.
-use Rattle.base_laws.proofs.Kit.{ℕ, zero, suc, ◌+◌, ◌*◌, ◌≤◌, ◌<◌, ◌≡◌, refl, sym, ap, ◌∙◌, Bool, true, false, cond, List, [], dec_le, dec_lt, mul-le-mul_right, add-one, arith, le-leb, eqb, length, take, get_or, List·getD-eq-default}
+use Rattle.base_laws.proofs.Kit.{ℕ, zero, suc, ◌+◌, ◌*◌, ◌≤◌, ◌<◌, ◌≡◌, refl, sym, ap, ◌∙◌, Bool, true, false, cond, List, [], dec_le, mul-le-mul_right, add-one, arith, le-leb, eqb, length, take, List·getD-eq-default}
 use Rattle.base_search.specs.declared.Refusal.{Refusal}
 use Rattle.base_search.specs.Checks.{refusal, verdict, Hold}
 use Rattle.base_search.proofs.Laws.{hold-of-passes}
@@ -8,7 +8,7 @@ use Rattle.text_reader.specs.Reading.{at_end}
 use Rattle.text_reader.proofs.Laws.{starts_first}
 use Rattle.model.specs.declared.Signal.{Signal}
 use Rattle.model.specs.declared.Totals.{Totals}
-use Rattle.model.specs.Network.{max_links, max_signals, max_trams, link_count, step_count, past_count, on_timeline, signal}
+use Rattle.model.specs.Network.{max_links, max_trams, link_count, step_count, past_count, on_timeline, signal}
 use Rattle.model.specs.Flows.{signal_at}
 use Rattle.model.specs.Table.{is_form, letter_p, ledger_checks, line_checks, plan_line_checks}
 use Rattle.model.specs.Hold.{plan_of}
@@ -23,7 +23,6 @@ use Rattle.network_tables.specs.declared.NetworkTables.{NetworkTables}
 use Rattle.network_tables.specs.declared.Tram.{Tram}
 use Rattle.network_tables.specs.Tables.{SignalTable, TramTable}
 use Rattle.network_tables.proofs.Tables.{travel-time-at}
-use Rattle.network_tables.specs.Fields.{step_size, line_size}
 use Rattle.network_trams.specs.Claims.{LoadAsked}
 use Rattle.step_arrivals.proofs.Boundaries.{cursor-on}
 use Rattle.step_past.specs.declared.Arrival.{Arrival}

@@ -1,5 +1,5 @@
 -- The masks of one signal, step by step, and those of all signals: one law for each way through a turn.
-use Rattle.base_laws.proofs.Kit.{ℕ, zero, suc, ◌+◌, ◌-◌, ◌^◌, ◌≤◌, ◌<◌, ◌≡◌, refl, sym, ap, ap₂, ◌∙◌, Bool, true, false, not, ◌&&◌, and-true, ◌⊎◌, inl, inr, ◌≢◌, List, [], ◌∷◌, ℕ_discrete, add-one, eq-or-lt_of_le, arith, le-leb, lt-leb, eqb, length, take, take-suc, take_all, get_or, set, length-set, get_or-set_same, get_or-set_other}
+use Rattle.base_laws.proofs.Kit.{ℕ, zero, suc, ◌+◌, ◌-◌, ◌^◌, ◌≤◌, ◌<◌, ◌≡◌, refl, sym, ap, ap₂, ◌∙◌, Bool, true, false, not, ◌&&◌, and-true, ◌⊎◌, inl, inr, ◌≢◌, List, [], ◌∷◌, ℕ_discrete, add-one, eq-or-lt_of_le, arith, le-leb, lt-leb, eqb, length, take, take-suc, take_all, get_or, set, set-get_or, length-set, get_or-set_same, get_or-set_other}
 use Rattle.base_search.specs.declared.Refusal.{Refusal}
 use Rattle.base_search.specs.Checks.{refusal, Checks, check, checked, verdict}
 use Rattle.base_laws.specs.Test.{◌and◌, every}
@@ -19,7 +19,7 @@ use Rattle.sheet_writer.proofs.Runs.{run-phase, fits-run}
 use Rattle.base_laws.proofs.Tests.{every-not}
 use Rattle.std.specs.List.{list_all}
 use Rattle.std.proofs.lemmas.List.Folds.{list_all-append}
-use Rattle.std.specs.Prelude.{Option, Some, None, Ok, Err}
+use Rattle.std.specs.Prelude.{Option, Some, None, Ok, Err, ok_or}
 
 -- ---- one signal: the first n steps fit, their masks are set, and this run shows next
 pub record ColumnTo (value : ℕ → ℕ) (P : ℕ) (times : List ℕ) (r : ℕ) (before masks : List (List ℕ)) (run : Run) (n : ℕ) : Type 0 where
@@ -65,15 +65,15 @@ module _ {line : List ℕ} {phases : ℕ} (cycle : CycleFits line phases) {times
       step-within = omega (arith, asked.times-asked.room)
 
       module _ {seconds : ℕ} (q : seconds ≡ seconds_in times n) where
-        pub column-broken : run.remaining < seconds → ColumnGot value phases times r before None masks
+        pub column-broken : run.remaining < seconds → ColumnGot value phases times r before None (set masks n (get_or masks n []))
         unfolding fits_in
         column-broken l =
-            record {
+            rw (set-get_or masks n []) (record {
               size = inv.column.size;
               ends = λ _. every-not (length before) (λ m. fits_at value phases (time_in times m) (seconds_in times m)) n h (fits-run inv.at (seconds_in times n) ∙ lt-leb (seconds_in times n) run.remaining (omega arith));
               fits = λ z. absurd (cc);
               column = λ z. absurd (cc);
-            }
+            })
 
         pub column-asked : seconds ≤ run.remaining → NextAsked phases run seconds
         column-asked l =
@@ -145,6 +145,15 @@ module _ (trams : List Tram) (r : ℕ) where
   pub trams-all : list_all (is_free r) trams ≡ has_no_tram_in trams r
   unfolding has_no_tram_in
   trams-all = ap (list_all (is_free r)) (sym (take_all (length trams) trams (omega arith))) ∙ first-trams (length trams) (omega arith)
+
+-- ---- a column that is none is refused
+pub column-refused : (o : Option (Unit {0})) {e q : Refusal} → ok_or o e ≡ Err q → (o ≡ None) × (q ≡ e)
+column-refused (Some _) h = absurd (cc)
+column-refused None h = (refl, cc)
+
+pub column-passed : (o : Option (Unit {0})) {e : Refusal} {u : Unit {0}} → ok_or o e ≡ Ok u → o ≡ Some tt
+column-passed (Some tt) h = refl
+column-passed None h = absurd (cc)
 
 -- ---- all signals: 35 of the first r passes, and their masks are held
 module _ (trams : List Tram) (signals : List Signal) (table : List (List ℕ)) (times : List ℕ) (steps : ℕ) where
