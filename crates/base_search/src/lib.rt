@@ -85,7 +85,8 @@ impl Reason {
     }
 }
 
-// A refusal: the number of the broken check, and the line and the item that it names, 0 where it names none.
+// A refusal: the number of the broken check, and the line and the item that it names, 0 where it names none. These are counted as places in tables are, and told
+// in 32 bits, so that whoever makes one says that they fit.
 #[derive(Clone, Copy, PartialEq, Eq)]
 pub struct Refusal {
     pub number: u32,

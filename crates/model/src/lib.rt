@@ -12,7 +12,7 @@ pub const MAX_PHASES: usize = 8;
 pub const SIGNAL_FIELDS: usize = 6 + 2 * MAX_PHASES;
 
 // A signal (the paper's light): its `G` line, with the phase that it shows, for how many seconds, and the seconds since phase 1 last began.
-// `least` and `greatest` have phase k's times at k - 1.
+// `least` and `greatest` have phase k's times at k - 1. That it has at most 8 phases is no fact of the type: it is made of any `G` line, and judged then (refusal 3).
 #[derive(Clone, Copy, Default)]
 pub struct Signal {
     pub least_cycle: u32,

@@ -48,7 +48,7 @@ pub const TIME_TABLE_SIZE: usize = MAX_STEPS + 1;
 
 pub const ROW_SIZE: usize = 2 * MAX_LINKS;
 
-// The counts of an `N` line.
+// The counts of an `N` line. That they are within the limits (`Few`) is no fact of the type: a line is judged by the counts that were read of it (refusal 2).
 #[derive(Clone, Copy)]
 pub struct Counts {
     pub links: usize,
@@ -179,7 +179,8 @@ impl From<Movement> for [u32; MOVEMENT_FIELDS] {
 }
 
 // How far a network text has been read while its lines pass: its counts, the place of the next line, the places where its `T`, its `G`, its `H` and its `S` lines
-// start, the shortest of all greatest times, and whether the lengths of the past steps and the number of all steps are valid (30).
+// start, the shortest of all greatest times, and whether the lengths of the past steps and the number of all steps are valid: a `bool`, since 30 is told only
+// behind the last `H` line.
 #[derive(Clone, Copy)]
 pub struct Reading {
     pub counts: Counts,
@@ -309,7 +310,8 @@ pub fn read_again(text: &[u8], at: usize, letter: u8, row: &mut [u32], width: us
     read_row(text, at, letter, row, 0, width).unwrap_or(at)
 }
 
-// Reads the first `width` numbers of a line of this letter, whatever follows them, into the table's row that starts at `start`.
+// Reads the first `width` numbers of a line of this letter, whatever follows them, into the table's row that starts at `start`: a `bool`, for
+// an `if` or `checked`, as there is no place of a next line to give.
 pub fn read_head(
     text: &[u8],
     at: usize,
@@ -371,7 +373,7 @@ pub fn add_numbers(numbers: &[u32], sums: &mut [u32]) -> Option<()>
     Some(())
 }
 
-// The numbers of an `S` line: its length, and the demand of link `i`.
+// The numbers of an `S` line: its length, and the demand of link `i`. It and a `P` line are lent as slices, by structs that say how long they are.
 pub fn step_length(step: &[u32]) -> u32
     requires { length step.now ≡ step_size }
     ensures { result ≡ length_in step.now }

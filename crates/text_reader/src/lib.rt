@@ -13,7 +13,8 @@ struct FieldNumber {
     next: usize,
 }
 
-// The number of the field after a tab, and which byte ends that field.
+// The number of the field after a tab, and which byte ends that field. No `Option`: where the byte behind a number is tested again for the next one, the largest
+// check_network takes 7 % more instructions.
 #[derive(Clone, Copy)]
 enum Ended {
     ByTab(FieldNumber),
@@ -21,7 +22,8 @@ enum Ended {
     Neither,
 }
 
-// Whether the numbers that were asked for are the last of their line: the place of the next line; or more follows, or one is missing.
+// Whether the numbers that were asked for are the last of their line: the place of the next line; or more follows, or one is missing. `line_at` and `head_at` part
+// them in two ways.
 #[derive(Clone, Copy)]
 enum Numbers {
     Last(usize),
@@ -119,7 +121,8 @@ fn guarded_numbers_at(text: &[u8], at: usize, out: &mut [u32]) -> Numbers
     }
 }
 
-// The number of the digits at a place, ten at most, and the place behind them, in a text that a line feed ends. The line feed is the sentinel: no digit is the last byte, so no place is held against
+// The number of the digits at a place, ten at most, and the place behind them, in a text that a line feed ends: that it does is found once for a line, and asked of
+// the three functions that rest on it. The line feed is the sentinel: no digit is the last byte, so no place is held against
 // the end. The compiler unrolls the loop and finds that only a tenth digit can lack room.
 fn sentinel_digits_from(text: &[u8], from: usize) -> Option<FieldNumber>
     requires from_in_bounds { from < length text.now }
