@@ -25,62 +25,72 @@ fn nobody_waits(links: &[Link]) -> bool
     links.iter().all(|link| link.waiting == 0)
 }
 
-// Whether movement k is j itself, or neither leaves the link that border movement j leaves nor is a border movement into the link that j enters.
-fn stands_apart(tables: &NetworkTables, half: &HalfTables, j: usize, k: usize) -> bool
-    requires { EndsAsked tables.now × (j < tables.now.reading.counts.movements) × (k < tables.now.reading.counts.movements) }
-    ensures { result ≡ stands_apart_in tables.now.movements.now half.now.links j k }
-{
-    let border = tables.movements[j];
-    let movement = tables.movements[k];
-    let other = !split_tables::is_border(movement, &half.links);
-    (k == j) | (movement.from != border.from) & (other | (movement.to != border.to))
+// What the border is judged by: a network's tables, whose movements name links, and those of its first half. A movement is asked for by its index, below the
+// count of movements: the tests compare movements by index.
+#[derive(Clone, Copy)]
+struct Border<'a> {
+    tables: &'a NetworkTables<'a>,
+    half: &'a HalfTables,
+    ghost ends: { EndsAsked tables.now },
 }
 
-// Whether all movements stand apart from border movement j.
-fn stands_alone(tables: &NetworkTables, half: &HalfTables, j: usize) -> bool
-    requires { EndsAsked tables.now × (j < tables.now.reading.counts.movements) }
-    ensures { result ≡ every tables.now.reading.counts.movements (stands_apart_in tables.now.movements.now half.now.links j) }
-{
-    (0..tables.reading.counts.movements).all(|k| stands_apart(tables, half, j, k))
-}
-
-// Whether a movement is no border movement, or leaves a link without a signal, with exit rate 0 and no other movement from it, and enters a link without second border.
-fn right_kind(tables: &NetworkTables, half: &HalfTables, j: usize) -> bool
-    requires { EndsAsked tables.now × (j < tables.now.reading.counts.movements) }
-    ensures { result ≡ right_kind_in tables.now.links.now tables.now.movements.now half.now.links tables.now.reading.counts.movements j }
-{
-    let movement = tables.movements[j];
-    if !split_tables::is_border(movement, &half.links) {
-        return true;
+impl Border<'_> {
+    // Whether movement k is j itself, or neither leaves the link that border movement j leaves nor is a border movement into the link that j enters.
+    fn stands_apart(&self, j: usize, k: usize) -> bool
+        requires { (j < self.now.tables.now.reading.counts.movements) × (k < self.now.tables.now.reading.counts.movements) }
+        ensures { result ≡ stands_apart_in self.now.tables.now.movements.now self.now.half.now.links j k }
+    {
+        let border = self.tables.movements[j];
+        let movement = self.tables.movements[k];
+        let other = !split_tables::is_border(movement, &self.half.links);
+        (k == j) | (movement.from != border.from) & (other | (movement.to != border.to))
     }
-    let link = tables.links[movement.from as usize - 1];
-    (link.signal == 0) & (link.exit_rate == 0) & stands_alone(tables, half, j)
-}
 
-// Whether all movements are of that kind.
-fn right_kinds(tables: &NetworkTables, half: &HalfTables) -> bool
-    requires { EndsAsked tables.now }
-    ensures { result ≡ every tables.now.reading.counts.movements (right_kind_in tables.now.links.now tables.now.movements.now half.now.links tables.now.reading.counts.movements) }
-{
-    (0..tables.reading.counts.movements).all(|j| right_kind(tables, half, j))
-}
+    // Whether all movements stand apart from border movement j.
+    fn stands_alone(&self, j: usize) -> bool
+        requires { j < self.now.tables.now.reading.counts.movements }
+        ensures { result ≡ every self.now.tables.now.reading.counts.movements (stands_apart_in self.now.tables.now.movements.now self.now.half.now.links j) }
+    {
+        (0..self.tables.reading.counts.movements).all(|k| self.stands_apart(j, k))
+    }
 
-// Whether a movement is no border movement, or enters a link without demand in a step.
-fn demand_free(step: &[u32], tables: &NetworkTables, half: &HalfTables, j: usize) -> bool
-    requires { EndsAsked tables.now × (length step.now ≡ step_size) × (j < tables.now.reading.counts.movements) }
-    ensures { result ≡ demand_free_in (demand_in step.now) tables.now.movements.now half.now.links j }
-{
-    let movement = tables.movements[j];
-    let other = !split_tables::is_border(movement, &half.links);
-    other | (network_tables::demand(step, movement.to as usize - 1) == 0)
-}
+    // Whether a movement is no border movement, or leaves a link without a signal, with exit rate 0 and no other movement from it, and enters a link without second border.
+    fn right_kind(&self, j: usize) -> bool
+        requires { j < self.now.tables.now.reading.counts.movements }
+        ensures { result ≡ right_kind_in self.now.tables.now.links.now self.now.tables.now.movements.now self.now.half.now.links self.now.tables.now.reading.counts.movements j }
+    {
+        let movement = self.tables.movements[j];
+        if !split_tables::is_border(movement, &self.half.links) {
+            return true;
+        }
+        let link = self.tables.links[movement.from as usize - 1];
+        (link.signal == 0) & (link.exit_rate == 0) & self.stands_alone(j)
+    }
 
-// The same of all movements, in one step.
-fn step_free(step: &[u32], tables: &NetworkTables, half: &HalfTables) -> bool
-    requires { EndsAsked tables.now × (length step.now ≡ step_size) }
-    ensures { result ≡ every tables.now.reading.counts.movements (demand_free_in (demand_in step.now) tables.now.movements.now half.now.links) }
-{
-    (0..tables.reading.counts.movements).all(|j| demand_free(step, tables, half, j))
+    // Whether all movements are of that kind.
+    fn right_kinds(&self) -> bool
+        ensures { result ≡ every self.now.tables.now.reading.counts.movements (right_kind_in self.now.tables.now.links.now self.now.tables.now.movements.now self.now.half.now.links self.now.tables.now.reading.counts.movements) }
+    {
+        (0..self.tables.reading.counts.movements).all(|j| self.right_kind(j))
+    }
+
+    // Whether a movement is no border movement, or enters a link without demand in a step.
+    fn demand_free(&self, step: &[u32], j: usize) -> bool
+        requires { (length step.now ≡ step_size) × (j < self.now.tables.now.reading.counts.movements) }
+        ensures { result ≡ demand_free_in (demand_in step.now) self.now.tables.now.movements.now self.now.half.now.links j }
+    {
+        let movement = self.tables.movements[j];
+        let other = !split_tables::is_border(movement, &self.half.links);
+        other | (network_tables::demand(step, movement.to as usize - 1) == 0)
+    }
+
+    // The same of all movements, in one step.
+    fn step_free(&self, step: &[u32]) -> bool
+        requires { length step.now ≡ step_size }
+        ensures { result ≡ every self.now.tables.now.reading.counts.movements (demand_free_in (demand_in step.now) self.now.tables.now.movements.now self.now.half.now.links) }
+    {
+        (0..self.tables.reading.counts.movements).all(|j| self.demand_free(step, j))
+    }
 }
 
 // The same in all steps, whose `S` lines have passed.
@@ -92,9 +102,13 @@ fn steps_free(whole: &Whole, half: &HalfTables) -> bool
     let width = reading.counts.step_width();
     let mut step = [0u32; STEP_SIZE];
     let mut line = reading.steps_at;
+    let border = Border {
+        tables: &whole.tables,
+        half,
+    };
     for _ in 0..reading.counts.steps {
         line = network_tables::read_again(whole.tables.text, line, b'S', &mut step, width);
-        if !step_free(&step, &whole.tables, half) {
+        if !border.step_free(&step) {
             return false;
         }
     }
@@ -117,12 +131,16 @@ pub fn can_split(whole: &Whole, halves: &Halves) -> bool
     let tables = &whole.tables;
     let counts = tables.reading.counts;
     let first = &halves.first;
+    let border = Border {
+        tables,
+        half: first,
+    };
     (halves.above == 0)
         & (counts.past == 0)
         & nobody_waits(&tables.links[..counts.links])
         & has_links(first, counts.links)
         & has_links(&halves.second, counts.links)
-        & right_kinds(tables, first)
+        & border.right_kinds()
         & steps_free(whole, first)
 }
 

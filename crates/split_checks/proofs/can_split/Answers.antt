@@ -4,8 +4,8 @@ use Rattle.split_checks.proofs.Network.{free-asked}
 use Rattle.split_checks.proofs.Split.{split-told}
 use Rattle.split_checks.proofs.can_split.Goals as goal
 
-pub right_kinds-requires : goal.right_kinds-requires
-right_kinds-requires c = free-asked c.requires.steps-asked c.args.halves.now.first
+pub invariant_of-border : goal.invariant_of-border
+invariant_of-border c = record { ends = free-asked c.requires.steps-asked c.args.halves.now.first }
 
 pub returns : goal.returns
 returns c = search (split-told, rules)

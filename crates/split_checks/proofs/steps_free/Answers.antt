@@ -7,7 +7,10 @@ pub loop-init : goal.loop-init
 loop-init c = steps-none c.requires _ refl
 
 pub step_free-requires : goal.step_free-requires
-step_free-requires c = (free-asked c.requires c.args.half.now, c.read_again-line.ensures.size ∙ c.loop.invariant.room)
+step_free-requires c = c.read_again-line.ensures.size ∙ c.loop.invariant.room
+
+pub invariant_of-border : goal.invariant_of-border
+invariant_of-border c = record { ends = free-asked c.requires c.args.half.now }
 
 pub returns-then-not-step_free : goal.returns-then-not-step_free
 returns-then-not-step_free c = steps-fail c.requires _ c.loop.invariant c.loop-test.true (rw c.step_width-width.ensures at c.read_again-line.ensures) c.step_free.ensures (search rules)

@@ -1,15 +1,15 @@
--- `split_checks::right_kinds` meets its contract.
+-- `split_checks::Border::right_kinds` meets its contract.
 use Rattle.std.proofs.Common.{refl, ◌∙◌, arith, rules, tests}
 use Rattle.std.proofs.lemmas.Iterator.{YieldsList-from_range}
 use Rattle.std.proofs.lemmas.Iterator.Search.{all_from_yields_List}
 use Rattle.network_tables.proofs.Every.{all-every}
 use Rattle.split_checks.specs.Tables.{right_kind_in}
-use Rattle.split_checks.proofs.right_kinds.Goals as goal
+use Rattle.split_checks.proofs.Border.right_kinds.Goals as goal
 
 pub returns : goal.returns
 returns c =
     let a = c.args in
-    let n = a.tables.now.reading.counts.movements in
-    let right = right_kind_in a.tables.now.links.now a.tables.now.movements.now a.half.now.links a.tables.now.reading.counts.movements in
+    let n = a.self.now.tables.now.reading.counts.movements in
+    let right = right_kind_in a.self.now.tables.now.links.now a.self.now.tables.now.movements.now a.self.now.half.now.links a.self.now.tables.now.reading.counts.movements in
     all_from_yields_List right _ _ _ c.all.ensures.ran (YieldsList-from_range 0 n n refl (omega arith)) (λ i b q k. search (rules, tests))
     ∙ all-every n right
