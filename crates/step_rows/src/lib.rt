@@ -96,7 +96,8 @@ pub fn next_row(
     add_movements(row, line, movements, counts);
 }
 
-// Writes a row into the ledger from index `at` on; all else is kept.
+// Writes a row into the ledger from index `at` on, through the part of the lent ledger that begins in its middle, as the paper asks; all else
+// is kept.
 pub fn write_row(ledger: &mut [u32], at: usize, row: &[u32])
     requires { at + length row.now ≤ length ledger.old }
     ensures { ledger.new ≡ take at ledger.old ++ (row.now ++ drop (at + length row.now) ledger.old) }
