@@ -19,7 +19,7 @@ module _ (letter : ℕ) (text : List ℕ) (at : ℕ) {row₀ : List ℕ} {read :
   pub row_of : {next : ℕ} → read ≡ Some next → Row letter (length row₀) text at next row
   row_of {next} e =
       let r = record-read letter (length row₀) text at next (sym got.told ∙ e) in
-      record { has-form = r.is-record; place = r.place; numbers = (got-record letter text at row₀ row read next got e).each }
+      record { has-form = r.formed; place = r.place; numbers = (got-record letter text at row₀ row read next got e).each }
 
 -- a line with a letter is one of the text
 pub letter-inside : (text : List Line) (i letter : ℕ) → letter < 256 → eqb (get_or text i no_line).letter letter ≡ true → i < length text
@@ -28,5 +28,5 @@ letter-inside text i letter small e = grind (arith, List·getD-eq-default text n
 -- so is a record
 pub record-inside : (letter n : ℕ) (text : List ℕ) (at i next : ℕ) → letter < 256 → Starts text at i → record_at letter n text at ≡ Some next → i < length (lines text)
 record-inside letter n text at i next small begins e =
-    let own = (parts letter n (line_at text at) (record-read letter n text at next e).is-record).own in
+    let own = (parts letter n (line_at text at) (record-read letter n text at next e).formed).own in
     letter-inside (lines text) i letter small (rw (starts-line text at i begins) at own)

@@ -57,7 +57,7 @@ module _ (table p : List ℕ) (s w : ℕ) (h : s + w ≤ length table) (kept : l
             let numbers = got-record letter text at (take (s + w - s) (drop s table)) p r next g e in
             let read = sym told ∙ e in
             record {
-              form = rw (starts-line text at i at_i) at (record-read letter w text at next read).is-record;
+              form = rw (starts-line text at i at_i) at (record-read letter w text at next read).formed;
               numbers = λ k l. part-past k ∙ List·getD-append p _ 0 k (omega (arith, kept, part-long)) ∙ numbers.each k (omega (arith, part-long)) ∙ ap (λ line. number line k) (starts-line text at i at_i);
               starts = starts-next text at i at_i letter w next read;
             };

@@ -78,7 +78,7 @@ module _ (letter n : ℕ) (line : Line) where
 -- ---- what a read tells
 -- a line that was read
 pub record Read (letter n : ℕ) (text : List ℕ) (at next : ℕ) : Type 0 where
-  pub is-record : is_record letter n (line_at text at) ≡ true
+  pub formed : is_record letter n (line_at text at) ≡ true
   pub place : next ≡ next_line text at
   pub forward : at < next
   pub within : next ≤ length text
@@ -97,7 +97,7 @@ module _ (letter n : ℕ) (text : List ℕ) (at : ℕ) where
       go true h q =
           let place : next ≡ next_line text at = cc in
           record {
-            is-record = h;
+            formed = h;
             place = place;
             forward = omega (arith, next-piece text at);
             within = omega (arith, ended-within text at (parts letter n (line_at text at) h).ended);
@@ -124,7 +124,7 @@ module _ (letter : ℕ) (text : List ℕ) (at : ℕ) (old out : List ℕ) where
   pub got-record : (r : Option ℕ) (next : ℕ)
       → Got (record_at letter (length old) text at) (leading_as letter (length old) (line_at text at)) old r out → r ≡ Some next → Numbered (length old) (line_at text at) out
   got-record r next g e =
-      let n = record-numbers letter (length old) (line_at text at) (record-read letter (length old) text at next (sym g.told ∙ e)).is-record in
+      let n = record-numbers letter (length old) (line_at text at) (record-read letter (length old) text at next (sym g.told ∙ e)).formed in
       rw (g.holds, over-all _ old n.count) n
 
   pub got-head : (r : Bool)
@@ -153,7 +153,7 @@ module _ (text : List ℕ) (at i : ℕ) (s : Starts text at i) where
 
   module _ (letter n next : ℕ) (r : record_at letter n text at ≡ Some next) where
     ended : (line_at text at).ended ≡ true
-    ended = (parts letter n (line_at text at) (record-read letter n text at next r).is-record).ended
+    ended = (parts letter n (line_at text at) (record-read letter n text at next r).formed).ended
 
     -- the next line starts at the next place
     pub starts-plus : Starts text next (i + 1)

@@ -62,7 +62,7 @@ same_lines a b s = same-lines-of s
 -- ---- a zero put in front of a number of fewer than ten digits is padding, wherever the number stands
 -- where a field ends
 pub data Stops : List ℕ → Type 0 where
-  at-end : Stops []
+  at-no-bytes : Stops []
   at-tab : (bs : List ℕ) → Stops (9 ∷ bs)
   at-feed : (bs : List ℕ) → Stops (10 ∷ bs)
 
@@ -127,7 +127,7 @@ module _ (f y : List ℕ) (short : one_to_ten f ≡ true) (room : length f < 10)
   none-behind = by stops
     where
       by : {z : List ℕ} → Stops z → first z ≡ []
-      by at-end = unfold piece split in refl
+      by at-no-bytes = unfold piece split in refl
       by (at-tab bs) = first-tab bs
       by (at-feed bs) = first-feed bs
 

@@ -127,11 +127,11 @@ module _ (text : List ℕ) (at : ℕ) where
       tabbed-rest t m g = g ∙ tabbed-some _ _ (field-some text (at + 1) (eqb-false (length (field_at text (at + 1))) 0 (sym e ∙ t))).1
 
 -- ---- the letter of a line
-no-letter : (bs : List ℕ) → length bs ≢ 1 → letter_of bs ≡ no_letter
+letter-lacking : (bs : List ℕ) → length bs ≢ 1 → letter_of bs ≡ no_letter
 unfolding letter_of
-no-letter [] h = refl
-no-letter (b ∷ []) h = absurd (h refl)
-no-letter (b ∷ c ∷ bs) h = refl
+letter-lacking [] h = refl
+letter-lacking (b ∷ []) h = absurd (h refl)
+letter-lacking (b ∷ c ∷ bs) h = refl
 
 -- whether a letter stands at a place
 module _ (text : List ℕ) (at letter : ℕ) where
@@ -171,7 +171,7 @@ module _ (text : List ℕ) (at letter : ℕ) where
 
   module _ (l : letter < no_letter) where
     no-letter-at : length (field_at text at) ≢ 1 → eqb (line_at text at).letter letter ≡ false
-    no-letter-at h = rw (line-letter text at, no-letter (field_at text at) h) (ne_eqb no_letter letter (λ e. omega arith))
+    no-letter-at h = rw (line-letter text at, letter-lacking (field_at text at) h) (ne_eqb no_letter letter (λ e. omega arith))
 
     -- a line that has the letter: the letter is its whole first field
     alone : eqb (line_at text at).letter letter ≡ true → end_of text at ≡ at + 1
