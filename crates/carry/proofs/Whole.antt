@@ -21,9 +21,6 @@ use Rattle.network_tables.specs.declared.Counts.{Counts}
 use Rattle.network_tables.specs.declared.NetworkTables.{NetworkTables}
 use Rattle.network_tables.specs.Places.{Few}
 use Rattle.network_tables.specs.declared.Tram.{Tram}
-use Rattle.network_tables.specs.declared.Link.{Link}
-use Rattle.network_tables.specs.declared.Movement.{Movement}
-use Rattle.network_tables.specs.Fields as fields
 use Rattle.network_tables.specs.Fields.{past_size, entered_at, left_at}
 use Rattle.network_tables.specs.Tables.{TramTable}
 use Rattle.network_tables.proofs.Tables.{capacity-at, travel-time-at, exit-rate-at, signal-of-at, phase-mask-at, standing-at, from-link-at, to-link-at, rate-at, share-at}
@@ -38,10 +35,10 @@ use Rattle.network_writer.proofs.Put.{puts-more}
 use Rattle.network_writer.proofs.Texts.{texts-of-list, put_first}
 use Rattle.carry.specs.declared.PassedLines.{PassedLines}
 use Rattle.carry.specs.Rows.{count_row, link_row, volumes_in, Copied, StepsPutAsked, StepsPut, Rising, SignalsAsked}
-use Rattle.network_tables.specs.Fields.{signal_at as signal_in, link_at, movement_at, no_signal, link_by, movement_by, movement_row}
-use Rattle.network_writer.specs.Texts.{rows_to, RowIs}
+use Rattle.network_tables.specs.Fields.{signal_at as signal_in, movement_at, no_signal, movement_row}
+use Rattle.network_writer.specs.Texts.{rows_to}
 use Rattle.network_writer.proofs.Rows.{each-one}
-use Rattle.carry.specs.Trams.{left_of, all_left}
+use Rattle.carry.specs.Trams.{all_left}
 use Rattle.carry.specs.declared.Standing.{Standing}
 use Rattle.carry.proofs.Trams.{left-is}
 use Rattle.carry.specs.Carried.{StandsAt, CarryAsked, TextPut}

@@ -6,7 +6,7 @@ use Rattle.text_writer.specs.Records.{record_texts}
 use Rattle.base_laws.specs.Sum.{joined}
 use Rattle.base_laws.specs.Indexed.{list}
 use Rattle.model.specs.declared.Signal.{Signal}
-use Rattle.model.specs.Network.{max_links, max_signals, max_steps, entry}
+use Rattle.model.specs.Network.{max_links, max_steps, entry}
 use Rattle.model.specs.Table.{is_form, letter_h, letter_s}
 use Rattle.network_tables.specs.declared.Counts.{Counts}
 use Rattle.network_tables.specs.declared.Link.{Link}

@@ -1,10 +1,9 @@
 -- `carry::put_network` meets its contract.
 use Rattle.std.proofs.Common.{rules}
-use Rattle.base_laws.proofs.Kit.{◌≡◌, [], ◌∷◌, length, take, refl}
+use Rattle.base_laws.proofs.Kit.{◌≡◌, [], ◌∷◌, length, refl}
 use Rattle.text_writer.specs.Records.{record_texts}
-use Rattle.model.specs.Table.{letter_t, letter_g, letter_q, letter_m}
-use Rattle.model_carry.specs.Part.{signal_numbers}
-use Rattle.network_tables.specs.Fields.{signal_at, tram_at, movement_at, movement_row}
+use Rattle.model.specs.Table.{letter_t, letter_q, letter_m}
+use Rattle.network_tables.specs.Fields.{tram_at, movement_at, movement_row}
 use Rattle.network_writer.specs.Put.{Put}
 use Rattle.network_writer.specs.Texts.{line_texts}
 use Rattle.carry.specs.Rows.{link_row}
