@@ -1,10 +1,9 @@
 -- The rows of a table's items, put or counted one after another.
-use Rattle.base_laws.proofs.Kit.{ℕ, zero, suc, ◌+◌, ◌≤◌, ◌≡◌, refl, ap₂, ◌∙◌, List, [], ◌∷◌, ◌++◌, append-nil, add-one, arith, length, length-append, get_or, subst, ◌<◌}
-use Rattle.std.proofs.lemmas.List.{get_or_default}
+use Rattle.base_laws.proofs.Kit.{ℕ, zero, suc, ◌+◌, ◌≤◌, ◌≡◌, refl, ap₂, ◌∙◌, List, [], ◌∷◌, ◌++◌, append-nil, add-one, arith, length, length-append}
 use Rattle.text_writer.specs.Records.{record_text, record_texts}
 use Rattle.network_writer.specs.declared.Output.{Output}
 use Rattle.network_writer.specs.Put.{Put}
-use Rattle.network_writer.specs.Texts.{line_texts, rows_to, RowIs, Gives, GivesAsMany}
+use Rattle.network_writer.specs.Texts.{line_texts, rows_to}
 use Rattle.network_writer.proofs.Put.{put-none, puts-more}
 use Rattle.network_writer.proofs.Texts.{texts-more}
 use Rattle.std.specs.Prelude.{Bool, Option, Some, None, is_some, option_to_list}
@@ -51,14 +50,3 @@ each-one letter row zero = refl
 each-one letter row (suc n) =
     texts-more letter (rows_to n (λ k. row k ∷ [])) (row n ∷ [])
     ∙ ap₂ (λ (a b : List ℕ). a ++ b) (each-one letter row n) (append-nil (record_text letter (row n)))
-
--- ---- what is given for each item, by its place in the table
-module _ {T : Type 0} (d : T) (post : ℕ → T → Option T → Type 0) (items : List T) (f : ℕ → List (List ℕ)) where
-  here : (k : ℕ) (none : T) (changed : Option T) → k < length items → post k (get_or items k none) changed → post k (get_or items k d) changed
-  here k none changed h p = let At : T → Type 0 = λ item. post k item changed in subst At (get_or_default items k none d h) p
-
-  pub gives-at : (converts : T → List ℕ → Type 0) → ((k : ℕ) (changed : Option T) → k < length items → post k (get_or items k d) changed → RowIs converts changed (f k)) → Gives converts post items f
-  gives-at converts each k none changed h p = each k changed h (here k none changed h p)
-
-  pub many-at : ((k : ℕ) (changed : Option T) → k < length items → post k (get_or items k d) changed → length (option_to_list changed) ≡ length (f k)) → GivesAsMany post items f
-  many-at each k none changed h p = each k changed h (here k none changed h p)
