@@ -1,39 +1,37 @@
 -- Where the tables hold a network's and a sheet's numbers, what is judged and written by them is what the request says.
-use Rattle.base_laws.proofs.Kit.{ℕ, zero, suc, ◌+◌, ◌*◌, ◌-◌, ◌%◌, ◌^◌, ◌≤◌, ◌<◌, ◌≡◌, refl, sym, ap, ap₂, ◌∙◌, true, cond, not, List, add-one, dec_lt, arith, lt-ltb, le-ltb, leb, ltb, eqb, length}
+use Rattle.base_laws.proofs.Kit.{ℕ, zero, suc, ◌+◌, ◌*◌, ◌-◌, ◌%◌, ◌^◌, ◌≤◌, ◌<◌, ◌≡◌, refl, sym, ap, ap₂, ◌∙◌, true, cond, not, List, [], add-one, dec_lt, arith, lt-ltb, le-ltb, leb, ltb, eqb, length, take, drop, length-take-le, get_or-take, length-drop, replicate, length-replicate, get_or, get_or-drop, List·getD-eq-default}
 use Rattle.base_search.specs.declared.Refusal.{Refusal}
 use Rattle.base_search.specs.Checks.{check, each, or_else, checked, verdict, Hold, Verdict}
-use Rattle.base_search.proofs.Laws.{first-same, or-else-passes, or-else-refused, hold-of-passes, passes-of-hold}
+use Rattle.base_search.proofs.Laws.{first-same, or-else-passes, or-else-refused, hold-of-passes}
 use Rattle.text_reader.specs.Lines.{Line, lines}
 use Rattle.text_reader.specs.Padding.{PaddingIgnored}
 use Rattle.text_reader.proofs.Padding.{same_lines}
+use Rattle.text_writer.specs.Records.{record_texts}
 use Rattle.text_writer.proofs.Laws.{records-same}
 use Rattle.base_laws.specs.Test.{◌and◌}
 use Rattle.base_laws.specs.Sum.{sum, only}
+use Rattle.base_laws.specs.Indexed.{list}
 use Rattle.model.specs.declared.Signal.{Signal}
-use Rattle.model.specs.Network.{max_signals, max_trams, entry, link_count, signal_count, movement_count, step_count, tram_count, tram_line, signal, step_length, time}
+use Rattle.model.specs.Network.{max_signals, max_trams, entry, link_count, signal_count, movement_count, step_count, tram_count, tram_line, past_count, on_timeline, signal, step_length, time, timeline_time}
 use Rattle.model.specs.Table.{is_form, letter_p, letter_t, tram_checks, network_checks}
 use Rattle.base_laws.proofs.Tests.{every-same}
 use Rattle.base_laws.proofs.Sums.{sum-ext, list_same}
-use Rattle.model.proofs.Times.{time-suc}
+use Rattle.model.proofs.Times.{time-suc, timeline-time-at, on-timeline-mono}
+use Rattle.model.proofs.Limits.{counts as limits}
 use Rattle.model.proofs.Accepted.{ValidNetwork, valid-network}
 use Rattle.network_tables.specs.declared.Counts.{Counts}
-use Rattle.network_tables.specs.declared.Reading.{Reading}
+use Rattle.network_tables.specs.declared.NetworkTables.{NetworkTables}
 use Rattle.network_tables.specs.Places.{plan_width, Few}
 use Rattle.network_tables.specs.declared.Tram.{Tram}
-use Rattle.network_tables.specs.declared.Link.{Link}
-use Rattle.network_tables.specs.declared.Movement.{Movement}
 use Rattle.network_tables.specs.Fields.{tram_fields, signal_at}
-use Rattle.network_tables.specs.Tables.{TramTable, Judged}
-use Rattle.network_tables.proofs.Stages.{verdict-refused}
+use Rattle.network_tables.specs.Tables.{TramTable}
 use Rattle.network_trams.specs.Claims.{LoadAsked}
-use Rattle.network.specs.Loading.{Loaded}
-use Rattle.step_arrivals.specs.Times.{ShiftAsked, Shifted}
-use Rattle.step_arrivals.proofs.Times.{shift-asked, plan-times}
-use Rattle.network_writer.specs.Plan.{column_in, plan_number, plan_row, plan_lines}
-use Rattle.network_writer.proofs.Plan.{column-mask, column-past, number-none, number-some}
+use Rattle.network.specs.Loading.{TablesLoaded}
+use Rattle.network_writer.specs.Plan.{column_in, plan_row, plan_lines, PlanAsked}
+use Rattle.network_writer.proofs.Plan.{column-mask, column-past}
 use Rattle.sheet_lines.specs.Sheet.{phases_of, sheet_checks}
-use Rattle.sheet_lines.specs.Reading.{sheet_table_size, number_in, SheetAsked, SheetRead}
-use Rattle.sheet_lines.proofs.Network.{sheet-asked, sheet-told, sheet-number}
+use Rattle.sheet_lines.specs.Reading.{line_in, number_in, SheetAsked, SheetRead}
+use Rattle.sheet_lines.proofs.Network.{signals-there, signal-there, sheet-asked, sheet-told, sheet-number}
 use Rattle.model_text.specs.Answers.{text_answer, bytes_after, room_verdict, Told}
 use Rattle.model_sheet.specs.Cycle.{place_at, phase_from, phase_at, fits_at, has_no_tram, sheet_phase, can_write, boundary_checks, sheet_numbers, sheet_text, write_checks}
 use Rattle.model_sheet.specs.Calls.{plan_from_sheet, buffer_after}
@@ -43,8 +41,9 @@ use Rattle.model_sheet.proofs.Steps.{time-zero}
 use Rattle.model_sheet.proofs.Checks.{two-phases, duration-some, offset-short}
 use Rattle.model_sheet.proofs.Promises.{write-promises}
 use Rattle.step_arrivals.specs.Arrivals.{seconds_in}
-use Rattle.sheet_writer.specs.Tables.{CycleLine, LineAsked, time_in, fits_in, has_no_tram_in, can_write_in, boundary_checks_in, phase_in, cycle_text}
-use Rattle.sheet_writer.specs.Stages.{CyclesAsked, MasksGot, CyclesWritten, NetworkAsked, SheetWritten}
+use Rattle.sheet_writer.specs.Tables.{CycleLine, CycleFits, time_in, TimesAsked, fits_in, has_no_tram_in, can_write_in, boundary_checks_in, phase_in, cycle_text}
+use Rattle.sheet_writer.specs.Stages.{MasksAsked, MasksGot, SheetWritten}
+use Rattle.std.specs.List.{slice_range}
 use Rattle.std.specs.Prelude.{Result, Ok, Err}
 
 -- ---- a line's cycle is that of its numbers
@@ -74,78 +73,114 @@ only_same : (k n : ℕ) (x y : ℕ) → (k < n → x ≡ y) → only (ltb k n) x
 only_same k n x y h = elim (dec_lt k n) [ yes l ↦ ap (only (ltb k n)) (h l) | no l ↦ rw (le-ltb k n (omega arith)) ]
 
 -- ---- by the tables
-module _ {counts : Counts} {trams : List Tram} {signals : List Signal} {table times masks : List ℕ} {v : Verdict} (few : Few counts) (got : MasksGot counts trams signals table times v masks) where
-  pub cycles-stopped : {q : Refusal} → v ≡ Err q → {old : List ℕ} → CyclesWritten counts trams signals table times old (Err q) old
-  unfolding or_else text_answer bytes_after
-  cycles-stopped e = record { told = rw (sym got.told ∙ e) (record { answered = refl; holds = refl }) }
-
-  text-held : v ≡ Ok tt → plan_lines masks max_signals counts ≡ cycle_text signals table times counts
+module _ {trams : List Tram} {signals : List Signal} {table : List (List ℕ)} {times : List ℕ} {counts : Counts} {masks : List (List ℕ)} {v : Verdict} (few : Few counts) (count : length signals ≡ counts.signals)
+    (got : MasksGot trams signals table times counts.steps v masks) where
+  text-held : v ≡ Ok tt → plan_lines masks counts ≡ cycle_text signals table times counts
   unfolding plan_lines cycle_text plan_row
   text-held e = records-same letter_p _ _ counts.steps (λ n l. list_same (plan_width counts) _ _ (λ k u. number n k l))
     where
-      number : (n k : ℕ) → n < counts.steps → plan_number masks max_signals n (column_in counts k) ≡ only (ltb k counts.signals) (2 ^ (phase_in signals table times n k - 1))
+      number : (n k : ℕ) → n < counts.steps → get_or (get_or masks n []) (column_in counts k) 0 ≡ only (ltb k counts.signals) (2 ^ (phase_in signals table times n k - 1))
       number n k l = elim (dec_lt k counts.signals) [
-        | yes h ↦ rw (← column-mask counts k h, ← number-some masks max_signals n k (omega (arith, few.signals)), lt-ltb k counts.signals h) ((got.held e).shows n k l h)
-        | no h ↦ sym (number-none masks max_signals n (column_in counts k) (column-past counts k (omega arith))) ∙ rw (le-ltb k counts.signals (omega arith)) refl
+        | yes h ↦ rw (← column-mask counts k h, lt-ltb k counts.signals h) ((got.held e).shows n k (omega (arith, got.size)) (omega (arith, count)))
+        | no h ↦ List·getD-eq-default (get_or masks n []) 0 (omega (arith, got.widths n l, column-past counts k (omega arith))) ∙ rw (le-ltb k counts.signals (omega arith)) refl
       ]
 
-  pub cycles-written : v ≡ Ok tt → {answer : (Result ℕ Refusal)} {old new : List ℕ} → Told (plan_lines masks max_signals counts) (room_verdict 24 (plan_lines masks max_signals counts) old) old answer new
-      → CyclesWritten counts trams signals table times old answer new
-  unfolding or_else
-  cycles-written e told = record { told = rw (sym got.told ∙ e) (rw (text-held e) at told) }
+  pub plan-asked : PlanAsked masks counts
+  plan-asked = record { few = few; steps = omega (arith, got.size) }
 
 -- ---- on a network that has passed
-module _ {text : List ℕ} {reading : Reading} {signals : List Signal} {times : List ℕ} (asked : NetworkAsked text reading signals times) where
+module _ (tables : NetworkTables) {signals : List Signal} (loaded : TablesLoaded tables signals) where
   abbrev network : List Line
-  network = lines text
+  network = lines tables.text.now
+
+  abbrev counts : Counts
+  counts = tables.reading.counts
+
+  abbrev there : List Signal
+  there = take counts.signals signals
+
+  abbrev times : List ℕ
+  times = slice_range tables.times.now counts.past (length tables.times.now)
 
   valid : ValidNetwork network
-  valid = valid-network network asked.holds
+  valid = valid-network network loaded.holds
 
   tram-forms : (k : ℕ) → k < tram_count network → is_form network (tram_line network k) letter_t tram_fields ≡ true
   unfolding Hold network_checks tram_checks
-  tram-forms k l = (asked.holds.1.0 k l).0
+  tram-forms k l = (loaded.holds.1.0 k l).0
 
-  pub load-asked : {trams : List Tram} → length trams ≡ max_trams → LoadAsked text reading.trams_at reading.counts.trams trams
-  load-asked room =
-      let c = asked.counted in
+  pub load-asked : {room : List Tram} → length room ≡ max_trams → LoadAsked tables room
+  load-asked size = record { starts = loaded.trams-start; counted = loaded.counted.trams; forms = tram-forms; values = valid.trams; size = size }
+
+  count-is : counts.signals ≡ signal_count network
+  count-is = loaded.counted.signals
+
+  there-is : length there ≡ counts.signals
+  there-is = signals-there loaded.signal-table count-is loaded.counted.few.signals
+
+  signal-is : (r : ℕ) → r < signal_count network → signal_at there r ≡ signal network r
+  signal-is r l = signal-there loaded.signal-table count-is loaded.counted.few.signals r (omega (arith, count-is))
+
+  pub cycle-asked : {table : List (List ℕ)} → length table ≡ max_signals → SheetAsked there table
+  cycle-asked l = sheet-asked loaded.signal-table count-is loaded.counted.few.signals valid l
+
+  -- the times from the end of the past on
+  few-times : counts.past + step_count network ≤ 120
+  few-times = omega (arith, loaded.counted.past, (limits network valid).together)
+
+  times-room : length times ≡ length tables.times.now - counts.past
+  times-room = length-take-le (length tables.times.now - counts.past) (drop counts.past tables.times.now) (omega (arith, length-drop counts.past tables.times.now))
+
+  time-at : (n : ℕ) → n ≤ step_count network → get_or times n 0 ≡ timeline_time network (past_count network) + time network n
+  unfolding on_timeline
+  time-at n h =
+      let e : counts.past + n ≡ on_timeline network n = omega (arith, loaded.counted.past) in
+      get_or-take (length tables.times.now - counts.past) (drop counts.past tables.times.now) n 0 (omega (arith, few-times, loaded.time-table.size))
+      ∙ get_or-drop counts.past tables.times.now n 0
+      ∙ rw e (loaded.time-table.holds (on_timeline network n) (on-timeline-mono network n (step_count network) h) ∙ timeline-time-at network n)
+
+  time-is : (n : ℕ) → n ≤ step_count network → time_in times n ≡ time network n
+  time-is n h = omega (arith, time-at n h, time-at 0 (omega arith), time-zero network)
+
+  seconds-is : (n : ℕ) → n < step_count network → seconds_in times n ≡ step_length network n
+  seconds-is n l = omega (arith, time-at n (omega arith), time-at (n + 1) (omega arith), ap (time network) (add-one n), time-suc network n)
+
+  times-asked : TimesAsked times counts.steps
+  times-asked =
+      let c = loaded.counted in
       record {
-        starts = asked.trams-start;
-        counted = c.trams;
-        few = c.few.trams;
-        forms = λ k l. tram-forms k (omega (arith, c.trams));
-        values = λ k l. valid.trams k (omega (arith, c.trams));
-        room = room;
+        room = omega (arith, times-room, few-times, loaded.time-table.size, c.steps);
+        since = λ n l. omega (arith, time-at n (omega (arith, c.steps)), time-at 0 (omega arith), time-zero network);
+        rises = λ n l. let l' : n < step_count network = omega (arith, c.steps) in
+            omega (arith, time-at n (omega arith), time-at (n + 1) (omega arith), ap (time network) (add-one n), time-suc network n);
       }
 
-  count-is : reading.counts.signals ≡ signal_count network
-  count-is = asked.counted.signals
+  -- the rows of the steps that there are
+  pub rows-there : (row : List ℕ) → length (take counts.steps (replicate 120 row)) ≡ counts.steps
+  rows-there row = length-take-le counts.steps (replicate 120 row) (omega (arith, length-replicate {A = List ℕ} 120 row, loaded.counted.few.steps))
 
-  signal-is : (r : ℕ) → r < signal_count network → signal_at signals r ≡ signal network r
-  signal-is = asked.signal-table.holds
-
-  pub cycle-asked : {table : List ℕ} → length table ≡ sheet_table_size → SheetAsked signals reading.counts.signals table
-  cycle-asked l = sheet-asked asked.signal-table count-is valid asked.counted.few.signals l
-
-  module _ {sheet_text' table : List ℕ} {v : Verdict} (read : SheetRead signals reading.counts.signals 1 sheet_text' v table) where
+  module _ {sheet_text' : List ℕ} {table : List (List ℕ)} {v : Verdict} (read : SheetRead there 1 sheet_text' v table) where
     abbrev sheet : List Line
     sheet = lines sheet_text'
 
+    sheet-told-is : v ≡ verdict (sheet_checks network sheet 1)
+    sheet-told-is = sheet-told loaded.signal-table count-is loaded.counted.few.signals read
+
     pub sheet-stopped : {old : List ℕ} {q : Refusal} → v ≡ Err q → SheetWritten network sheet old (Err q) old
     unfolding or_else text_answer bytes_after
-    sheet-stopped e = record { told = rw (sym (sheet-told asked.signal-table count-is read) ∙ e) (record { answered = refl; holds = refl }) }
+    sheet-stopped e = record { told = rw (sym sheet-told-is ∙ e) (record { answered = refl; holds = refl }) }
 
     module _ (e : v ≡ Ok tt) where
       passes : verdict (sheet_checks network sheet 1) ≡ Ok tt
-      passes = sym (sheet-told asked.signal-table count-is read) ∙ e
+      passes = sym sheet-told-is ∙ e
 
       held : Hold (sheet_checks network sheet 1)
       held = hold-of-passes _ passes
 
-      number_is : (r : ℕ) → r < signal_count network → (k : ℕ) → k < phases_of network r + 1 → number_in table (9 * r) k ≡ entry sheet r k
-      number_is = sheet-number asked.signal-table count-is read e
+      number_is : (r : ℕ) → r < signal_count network → (k : ℕ) → k < phases_of network r + 1 → number_in (line_in table r) k ≡ entry sheet r k
+      number_is = sheet-number loaded.signal-table count-is loaded.counted.few.signals read e
 
-      line-is : (r : ℕ) → r < signal_count network → CycleLine (number_in table (9 * r)) (phases_of network r)
+      line-is : (r : ℕ) → r < signal_count network → CycleLine (number_in (line_in table r)) (phases_of network r)
       line-is r l =
           let p = two-phases (signal network r) (valid.phases r l) in
           record {
@@ -155,67 +190,74 @@ module _ {text : List ℕ} {reading : Reading} {signals : List Signal} {times : 
             short = rw (number_is r l (phases_of network r) (omega arith), sum-ext (phases_of network r) _ _ (λ k u. number_is r l k (omega arith))) (offset-short network sheet valid held r l);
           }
 
-      seconds-is : (n : ℕ) → n < step_count network → seconds_in times n ≡ step_length network n
-      seconds-is n l =
-          let t = asked.time-table in
-          rw (t.holds n (omega arith), t.holds (n + 1) (omega arith), add-one) (omega (arith, time-suc network n))
+      pub masks-asked : {masks : List (List ℕ)} → length masks ≡ counts.steps → MasksAsked there table times masks
+      masks-asked l =
+          record {
+            few = omega (arith, there-is, loaded.counted.few.signals);
+            size = (read.held e).size;
+            times-asked = rw l times-asked;
+            cycles = λ r h. cycle r (omega (arith, h, there-is, count-is));
+          }
+        where
+          cycle : (r : ℕ) → r < signal_count network → CycleFits (line_in table r) (signal_at there r).phases
+          cycle r l =
+              rw (signal-is r l) (record {
+                line-held = line-is r l;
+                room = omega (arith, (read.held e).widths r (omega (arith, l, count-is, loaded.counted.few.signals)), (two-phases (signal network r) (valid.phases r l)).1);
+              })
 
       module _ {trams : List Tram} (tram-table : TramTable network trams) where
-        pub cycles-asked : CyclesAsked reading.counts trams signals table times
-        cycles-asked =
-            let c = asked.counted in
-            let t = asked.time-table in
-            record {
-              few = c.few;
-              trams-size = tram-table.size;
-              signals-size = asked.signal-table.size;
-              times-asked = record {
-                size = t.size;
-                few = c.few.steps;
-                zero = t.holds 0 (omega arith) ∙ time-zero network;
-                rises = λ n l. omega (arith, t.holds n (omega (arith, c.steps)), t.holds (n + 1) (omega (arith, c.steps)), add-one n, ap (time network) (add-one n), time-suc network n);
-              };
-              lines-asked = λ r h. line r (omega (arith, count-is)) h;
-            }
-          where
-            line : (r : ℕ) → r < signal_count network → r < reading.counts.signals → LineAsked table (9 * r) (signal_at signals r).phases
-            line r l h =
-                let p = two-phases (signal network r) (valid.phases r l) in
-                rw (signal-is r l) (record { line = line-is r l; room = omega (arith, (read.held e).room, asked.counted.few.signals); early = omega (arith, asked.counted.few.signals) })
-
-        no-tram-same : (r : ℕ) → has_no_tram_in trams reading.counts.trams r ≡ has_no_tram network r
+        no-tram-same : (r : ℕ) → has_no_tram_in trams r ≡ has_no_tram network r
         unfolding has_no_tram_in has_no_tram
-        no-tram-same r = rw asked.counted.trams (every-same (tram_count network) _ _ (λ k u. ap (λ (t : Tram). not (eqb t.signal (suc r))) (tram-table.holds k u)))
+        no-tram-same r =
+            rw tram-table.size (every-same (tram_count network) _ _ (λ k u. ap (λ (t : Tram). not (eqb t.signal (suc r))) (tram-table.holds k u)))
 
-        can-write-same : (r : ℕ) → r < signal_count network → can_write_in reading.counts trams signals table times r ≡ can_write network sheet r
+        can-write-same : (r : ℕ) → r < signal_count network → can_write_in trams there table times (step_count network) r ≡ can_write network sheet r
         unfolding can_write_in can_write fits_in
         can-write-same r l =
-            rw (no-tram-same r, signal-is r l, asked.counted.steps)
+            rw (no-tram-same r, signal-is r l)
             (ap (λ b. has_no_tram network r and b)
             (every-same (step_count network) _ _ (λ n u. fits-same (phases_of network r) (number_is r l) (time_in times n) (seconds_in times n)
-            ∙ ap₂ (fits_at (entry sheet r) (phases_of network r)) (asked.time-table.holds n (omega arith)) (seconds-is n u))))
+            ∙ ap₂ (fits_at (entry sheet r) (phases_of network r)) (time-is n (omega arith)) (seconds-is n u))))
 
-        boundary-same : verdict (boundary_checks_in reading.counts trams signals table times) ≡ verdict (boundary_checks network sheet)
+        boundary-same : verdict (boundary_checks_in trams there table times counts.steps) ≡ verdict (boundary_checks network sheet)
         unfolding verdict boundary_checks_in boundary_checks
         boundary-same =
-            first-same _ _ reading.counts.signals 0 (λ r l u. ap (λ b. checked b 35 0 (suc r)) (can-write-same r (omega (arith, count-is))))
-            ∙ ap (λ n. verdict (each n (λ r. check 35 0 (suc r) (can_write network sheet r)))) count-is
+            first-same _ _ (length there) 0 (λ r l u. ap (λ b. checked b 35 0 (suc r))
+            (ap (λ n. can_write_in trams there table times n r) loaded.counted.steps ∙ can-write-same r (omega (arith, there-is, count-is))))
+            ∙ ap (λ n. verdict (each n (λ r. check 35 0 (suc r) (can_write network sheet r)))) (there-is ∙ count-is)
 
-        width_is : plan_width reading.counts ≡ signal_count network + (2 * link_count network + movement_count network)
-        width_is = rw (asked.counted.signals, asked.counted.links, asked.counted.movements)
-
-        text_same : cycle_text signals table times reading.counts ≡ sheet_text network sheet
+        text_same : cycle_text there table times counts ≡ sheet_text network sheet
         unfolding cycle_text sheet_text sheet_numbers
         text_same =
-            rw (width_is, count-is, asked.counted.steps)
-            (records-same letter_p _ _ (step_count network) (λ n l. list_same (signal_count network + (2 * link_count network + movement_count network)) _ _ (λ k u. only_same k (signal_count network) _ _ (λ h. mask n k l h))))
+            ap₂ (λ steps f. record_texts letter_p steps f) loaded.counted.steps refl
+            ∙ records-same letter_p _ _ (step_count network) (λ n l.
+            ap (λ w. list w (λ k. only (ltb k counts.signals) (2 ^ (phase_in there table times n k - 1)))) width_is
+            ∙ list_same (signal_count network + (2 * link_count network + movement_count network)) _ _ (λ k u. ap (λ s. only (ltb k s) (2 ^ (phase_in there table times n k - 1))) count-is ∙ only_same k (signal_count network) _ _ (λ h. mask n k l h)))
           where
-            mask : (n r : ℕ) → n < step_count network → r < signal_count network → 2 ^ (phase_in signals table times n r - 1) ≡ 2 ^ (sheet_phase network sheet n r - 1)
-            mask n r l u =
-                ap (λ q. 2 ^ (q - 1)) (rw (signal-is r u) (phase-same (phases_of network r) (number_is r u) (time_in times n)) ∙ ap (phase_at (entry sheet r) (phases_of network r)) (asked.time-table.holds n (omega arith)))
+            width_is : plan_width counts ≡ signal_count network + (2 * link_count network + movement_count network)
+            width_is = omega (arith, loaded.counted.signals, loaded.counted.links, loaded.counted.movements)
 
-        pub sheet-written : {old new : List ℕ} {answer : (Result ℕ Refusal)} → CyclesWritten reading.counts trams signals table times old answer new → SheetWritten network sheet old answer new
-        sheet-written w = record { told = rw passes (unfold or_else in (rw (boundary-same, text_same) at w.told)) }
+            mask : (n r : ℕ) → n < step_count network → r < signal_count network → 2 ^ (phase_in there table times n r - 1) ≡ 2 ^ (sheet_phase network sheet n r - 1)
+            mask n r l u =
+                ap (λ q. 2 ^ (q - 1)) (rw (signal-is r u) (phase-same (phases_of network r) (number_is r u) (time_in times n)) ∙ ap (phase_at (entry sheet r) (phases_of network r)) (time-is n (omega arith)))
+
+        module _ {steps : ℕ} (is-steps : steps ≡ counts.steps) {w : Verdict} {masks : List (List ℕ)} (filled : MasksGot trams there table times steps w masks) where
+          got : MasksGot trams there table times counts.steps w masks
+          got = rw is-steps at filled
+
+          pub masks-stopped : {old : List ℕ} {q : Refusal} → w ≡ Err q → SheetWritten network sheet old (Err q) old
+          unfolding or_else text_answer bytes_after
+          masks-stopped q = record { told = rw (passes, sym boundary-same ∙ sym got.told ∙ q) (record { answered = refl; holds = refl }) }
+
+          pub plan-wanted : PlanAsked masks counts
+          plan-wanted = plan-asked loaded.counted.few there-is got
+
+          pub sheet-written : w ≡ Ok tt → {old new : List ℕ} {answer : (Result ℕ Refusal)} → Told (plan_lines masks counts) (room_verdict 24 (plan_lines masks counts) old) old answer new → SheetWritten network sheet old answer new
+          unfolding or_else
+          sheet-written p told =
+              let same = text-held loaded.counted.few there-is got p ∙ text_same in
+              record { told = rw (passes, sym boundary-same ∙ sym got.told ∙ p) (rw same at told) }
 
 -- ---- the whole call
 written_is : (network sheet : List Line) (old : List ℕ) → verdict (write_checks network sheet (length old))
@@ -228,24 +270,12 @@ pub call-told : {network sheet : List Line} {old : List ℕ} {answer : (Result �
 unfolding plan_from_sheet buffer_after
 call-told {network} {sheet} {old} t = rw (t.answered, t.holds) (write-promises network sheet old)
 
-module _ {text : List ℕ} {r : (Result Reading Refusal)} {signals : List Signal} {links : List Link} {movements : List Movement} {times : List ℕ}
-    (g : Judged (network_checks (lines text)) (Loaded text signals links movements times) r) where
-  pub times-asked : {reading : Reading} → r ≡ Ok reading → ShiftAsked times reading.counts.past reading.counts.steps
-  times-asked {reading} e = let l = g.held reading e in shift-asked l.counted l.holds l.time-table
+module _ (text sheet_text' : List ℕ) {old : List ℕ} where
+  pub call-refused : {q : Refusal} → verdict (network_checks (lines text)) ≡ Err q → WritePromises (lines text) (lines sheet_text') old (Err q) old
+  call-refused v = call-told (rw (written_is (lines text) (lines sheet_text') old ∙ or-else-refused _ _ _ v) (unfold text_answer bytes_after in record { answered = refl; holds = refl }))
 
-  pub call-asked : {reading : Reading} → r ≡ Ok reading → {after : List ℕ} → Shifted times reading.counts.past reading.counts.steps after → NetworkAsked text reading signals after
-  call-asked {reading} e s =
-      let l = g.held reading e in
-      record { counted = l.counted; trams-start = l.trams-start; signal-table = l.signal-table; time-table = plan-times l.counted l.holds l.time-table s; holds = l.holds }
-
-  module _ {sheet : List Line} {old : List ℕ} where
-    pub call-refused : {q : Refusal} → r ≡ Err q → WritePromises (lines text) sheet old (Err q) old
-    call-refused e =
-        call-told (rw (written_is (lines text) sheet old ∙ or-else-refused _ _ _ (verdict-refused g e)) (unfold text_answer bytes_after in record { answered = refl; holds = refl }))
-
-    pub call-written : {reading : Reading} → r ≡ Ok reading → {answer : (Result ℕ Refusal)} {new : List ℕ} → SheetWritten (lines text) sheet old answer new → WritePromises (lines text) sheet old answer new
-    call-written {reading} e w =
-        call-told (rw (written_is (lines text) sheet old ∙ or-else-passes _ _ (passes-of-hold (network_checks (lines text)) (g.held reading e).holds)) w.told)
+  pub call-written : verdict (network_checks (lines text)) ≡ Ok tt → {answer : (Result ℕ Refusal)} {new : List ℕ} → SheetWritten (lines text) (lines sheet_text') old answer new → WritePromises (lines text) (lines sheet_text') old answer new
+  call-written v w = call-told (rw (written_is (lines text) (lines sheet_text') old ∙ or-else-passes _ _ v) w.told)
 
 -- the same of texts that differ only in padding
 pub padding-too : (network sheet : List ℕ) {old new : List ℕ} {answer : (Result ℕ Refusal)} → WritePromises (lines network) (lines sheet) old answer new

@@ -52,6 +52,7 @@ module _ {line : List ℕ} {phases : ℕ} (cycle : CycleFits line phases) {times
         let e : n ≡ length before = omega (arith, inv.few) in
         record {
           size = inv.column.size;
+          widths = inv.widths;
           ends = λ z. absurd (cc);
           fits = λ _. rw e at inv.fit;
           column = λ _. rw e at inv.column;
@@ -70,6 +71,7 @@ module _ {line : List ℕ} {phases : ℕ} (cycle : CycleFits line phases) {times
         column-broken l =
             rw (set-get_or masks n []) (record {
               size = inv.column.size;
+              widths = inv.widths;
               ends = λ _. every-not (length before) (λ m. fits_at value phases (time_in times m) (seconds_in times m)) n h (fits-run inv.at (seconds_in times n) ∙ lt-leb (seconds_in times n) run.remaining (omega arith));
               fits = λ z. absurd (cc);
               column = λ z. absurd (cc);
@@ -151,9 +153,9 @@ pub column-refused : (o : Option (Unit {0})) {e q : Refusal} → ok_or o e ≡ E
 column-refused (Some _) h = absurd (cc)
 column-refused None h = (refl, cc)
 
-pub column-passed : (o : Option (Unit {0})) {e : Refusal} {u : Unit {0}} → ok_or o e ≡ Ok u → o ≡ Some tt
-column-passed (Some tt) h = refl
-column-passed None h = absurd (cc)
+pub column-passed : (o : Option (Unit {0})) (e : Refusal) {u : Unit {0}} → ok_or o e ≡ Ok u → o ≡ Some tt
+column-passed (Some _) e h = refl
+column-passed None e h = absurd (cc)
 
 -- ---- all signals: 35 of the first r passes, and their masks are held
 module _ (trams : List Tram) (signals : List Signal) (table : List (List ℕ)) (times : List ℕ) (steps : ℕ) where
@@ -163,21 +165,22 @@ module _ (trams : List Tram) (signals : List Signal) (table : List (List ℕ)) (
   pub record MasksTo (masks : List (List ℕ)) (r : ℕ) : Type 0 where
     pub passed : PassedTo (length signals) signal_check r
     pub size : length masks ≡ steps
+    pub widths : (m : ℕ) → m < steps → length (get_or masks m []) ≡ max_signals
     pub held : MasksHeld signals table times r masks
 
 module _ {signals : List Signal} {table : List (List ℕ)} {times : List ℕ} {before : List (List ℕ)} (asked : MasksAsked signals table times before) (trams : List Tram) where
   abbrev steps : ℕ
   steps = length before
 
-  pub masks-none : MasksTo trams signals table times steps before 0
-  masks-none = record { passed = passed_none; size = refl; held = record { shows = λ n r u h. absurd (omega arith) } }
+  pub masks-none : ((m : ℕ) → m < steps → length (get_or before m []) ≡ max_signals) → MasksTo trams signals table times steps before 0
+  masks-none wide = record { passed = passed_none; size = refl; widths = wide; held = record { shows = λ n r u h. absurd (omega arith) } }
 
   module _ {masks : List (List ℕ)} {r : ℕ} (inv : MasksTo trams signals table times steps masks r) where
     pub masks-all : length signals ≤ r → MasksGot trams signals table times steps (Ok tt) masks
     unfolding boundary_checks_in
     masks-all h =
         let e : r ≡ length signals = omega (arith, inv.passed.within) in
-        record { told = sym (passed-all inv.passed h); size = inv.size; held = λ _. rw e at inv.held }
+        record { told = sym (passed-all inv.passed h); size = inv.size; widths = inv.widths; held = λ _. rw e at inv.held }
 
     module _ (h : r < length signals) where
       pub signal-few : r < max_signals
@@ -189,33 +192,38 @@ module _ {signals : List Signal} {table : List (List ℕ)} {times : List ℕ} {b
       pub column-wanted : ColumnAsked times r masks
       column-wanted = record { times-asked = rw inv.size asked.times-asked; signal = signal-few }
 
-      stopped : {after : List (List ℕ)} → length after ≡ steps → can_write_in trams signals table times steps r ≡ false → {q : Refusal} → q ≡ refusal 35 0 (r + 1)
+      stopped : {after : List (List ℕ)} → length after ≡ steps → ((m : ℕ) → m < steps → length (get_or after m []) ≡ max_signals) → can_write_in trams signals table times steps r ≡ false → {q : Refusal} → q ≡ refusal 35 0 (r + 1)
           → MasksGot trams signals table times steps (Err q) after
       unfolding boundary_checks_in
-      stopped l f z =
+      stopped l wide f z =
           record {
             told = rw (z, add-one) (sym (passed-stop inv.passed h (unfold verdict checked in rw f)));
             size = l;
+            widths = wide;
             held = λ p. let w : ◌≡◌ {A = ℕ} 0 1 = cc in absurd (omega arith);
           }
 
       module _ {b : Bool} (tram : b ≡ has_no_tram_in trams r) where
         pub masks-tram : b ≡ false → {q : Refusal} → q ≡ refusal 35 0 (r + 1) → MasksGot trams signals table times steps (Err q) masks
-        masks-tram n z = stopped inv.size (unfold can_write_in ◌and◌ in rw (sym tram ∙ n)) z
+        masks-tram n z = stopped inv.size inv.widths (unfold can_write_in ◌and◌ in rw (sym tram ∙ n)) z
 
         module _ (n : b ≡ true) {c : Option (Unit {0})} {after : List (List ℕ)} (got : ColumnGot (number_in (line_in table r)) (signal_at signals r).phases times r masks c after) where
           judged : can_write_in trams signals table times steps r ≡ fits_in (number_in (line_in table r)) (signal_at signals r).phases times (length masks)
           unfolding can_write_in ◌and◌
           judged = rw (sym tram ∙ n, inv.size) refl
 
+          wide : (m : ℕ) → m < steps → length (get_or after m []) ≡ max_signals
+          wide m l = got.widths m (omega (arith, inv.size))
+
           pub masks-off : c ≡ None → {q : Refusal} → q ≡ refusal 35 0 (r + 1) → MasksGot trams signals table times steps (Err q) after
-          masks-off f z = stopped (got.size ∙ inv.size) (judged ∙ got.ends f) z
+          masks-off f z = stopped (got.size ∙ inv.size) wide (judged ∙ got.ends f) z
 
           pub masks-next : c ≡ Some tt → MasksTo trams signals table times steps after (r + 1)
           masks-next t =
               record {
                 passed = passed-next inv.passed h (unfold verdict checked in rw (judged ∙ got.fits t));
                 size = got.size ∙ inv.size;
+                widths = wide;
                 held = record { shows = λ m s u l. shown m s u (eq-or-lt_of_le {n = s} {m = r} (omega arith)) };
               }
             where

@@ -74,6 +74,7 @@ pub record Column (value : ℕ → ℕ) (P : ℕ) (times : List ℕ) (r n : ℕ)
 
 pub record ColumnGot (value : ℕ → ℕ) (P : ℕ) (times : List ℕ) (r : ℕ) (before : List (List ℕ)) (result : Option (Unit {0})) (masks : List (List ℕ)) : Type 0 where
   pub size : length masks ≡ length before
+  pub widths : (m : ℕ) → m < length before → length (get_or masks m []) ≡ max_signals
   pub ends : result ≡ None → fits_in value P times (length before) ≡ false
   pub fits : result ≡ Some tt → fits_in value P times (length before) ≡ true
   pub column : result ≡ Some tt → Column value P times r (length before) before masks

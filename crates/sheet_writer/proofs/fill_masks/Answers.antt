@@ -4,7 +4,7 @@ use Rattle.sheet_writer.proofs.Columns.{column-refused, column-passed, masks-non
 use Rattle.sheet_writer.proofs.fill_masks.Goals as goal
 
 pub loop-r-init : goal.loop-r-init
-loop-r-init c = masks-none c.requires c.args.trams.now
+loop-r-init c = masks-none c.requires c.args.trams.now c.told-masks
 
 pub returns-then-not-has_no_tram : goal.returns-then-not-has_no_tram
 returns-then-not-has_no_tram c = masks-tram c.requires c.args.trams.now c.loop-r.invariant c.loop-r-test.true c.has_no_tram.ensures c.if-not-has_no_tram.true c.refusal-refusal.ensures
@@ -24,7 +24,7 @@ returns-in_err-ok_or c =
 pub loop-r-preserved : goal.loop-r-preserved
 loop-r-preserved c =
     masks-next c.requires c.args.trams.now c.loop-r.invariant c.loop-r-test.true c.has_no_tram.ensures c.if-not-has_no_tram.false c.fill_column.ensures
-    (column-passed c.fill_column.result (sym c.ok_or.ensures.value ∙ c.in_ok-ok_or.was))
+    (column-passed c.fill_column.result _ (sym c.ok_or.ensures.value ∙ c.in_ok-ok_or.was))
 
 pub returns : goal.returns
 returns c = masks-all c.requires c.args.trams.now c.loop-r.invariant c.loop-r-test.false
