@@ -4,7 +4,7 @@ use lib.IntN.{ℤ, sub_ℕ}
 use mir.Syntax.{w64}
 use mir.Val.{SFits, to_z, of_z}
 use Rattle.base_search.specs.declared.Refusal.{Refusal}
-use Rattle.base_search.specs.Checks.{Hold}
+use Rattle.base_search.specs.Checks.{verdict, Hold}
 use Rattle.base_search.specs.Numbers.{is_one_of}
 use Rattle.base_search.proofs.Laws.{passes-of-hold, passed_on}
 use Rattle.base_search.proofs.Numbers.{refused-number, all_of}
@@ -22,9 +22,7 @@ use Rattle.model.proofs.Bounds.{doubled-small}
 use Rattle.model.proofs.Hold.{refused-answer, refused-rows}
 use Rattle.model.proofs.Numbers.{network-among}
 use Rattle.network_tables.specs.declared.Counts.{Counts}
-use Rattle.network_tables.specs.declared.Reading.{Reading}
-use Rattle.network_tables.specs.Tables.{Judged, CountsHold}
-use Rattle.network_tables.proofs.Stages.{verdict-refused}
+use Rattle.network_tables.specs.Tables.{CountsHold}
 use Rattle.plan_check.specs.Plan.{PlanGot}
 use Rattle.plan_check.proofs.Plans.{plan-promised}
 use Rattle.plan_compare.specs.declared.Order.{Order}
@@ -75,11 +73,10 @@ module _ (network_text first_text second_text first_old second_old : List ℕ) w
   other = plan_of network_text second_text
 
   -- the network is refused
-  pub network-refused : {stage : (Result Reading Refusal)} {Held : Reading → Type 0} {r : Refusal} → Judged (network_checks net) Held stage → stage ≡ Err r
+  pub network-refused : {r : Refusal} → verdict (network_checks net) ≡ Err r
       → ComparisonGot network_text first_text second_text first_old second_old (Err (Network r)) first_old second_old
   unfolding compare_plans network_answer second_ledger_after once_accepted check_network is_one_of all_of
-  network-refused {r = r} got e =
-      let v = verdict-refused got e in
+  network-refused {r} v =
       record {
         answered = sym (rw v refl);
         first_rows = sym (refused-rows net r v one first_old);
