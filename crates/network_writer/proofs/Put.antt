@@ -5,7 +5,7 @@ use Rattle.text_writer.specs.Writing.{put_at, Wrote}
 use Rattle.text_writer.proofs.Laws.{put-more, wrote-length, record-most}
 use Rattle.network_tables.specs.Fields.{line_size}
 use Rattle.network_writer.specs.declared.Output.{Output}
-use Rattle.network_writer.specs.Put.{longest, Put, Early}
+use Rattle.network_writer.specs.Put.{longest, Put}
 
 pub put-none : (output : Output) → Put 0 [] output output
 unfolding put_at
@@ -51,9 +51,6 @@ module _ {letter : ℕ} {f : ℕ → List ℕ} {count : ℕ} {old : Output} wher
   rows_none = record { few = omega arith; put = lines_none letter f old }
 
   module _ {now : Output} {k : ℕ} (t : LinesTo letter f count old now k) where
-    pub rows-early : Early count old → k < count → Early 1 now
-    rows-early e h = omega (arith, t.put.ends, t.put.few)
-
     pub rows_next : k < count → {new : Output} → Put 1 (record_text letter (f k)) now new → LinesTo letter f count old new (k + 1)
     rows_next h p = record { few = omega arith; put = lines_more letter f t.put p }
 
