@@ -8,7 +8,7 @@ use Rattle.base_search.specs.Checks.{Hold}
 use Rattle.model.specs.Table.{network_checks}
 use Rattle.model.proofs.Accepted.{valid-network}
 use Rattle.model.proofs.Limits.{counts}
-use Rattle.model.proofs.Times.{timeline-time, on-timeline-mono}
+use Rattle.model.proofs.Times.{timeline-time-at, on-timeline-mono}
 use Rattle.model.specs.Flows.{row}
 use Rattle.model.specs.Calls.{written}
 use Rattle.model.specs.Report.{boundary_numbers}
@@ -38,7 +38,7 @@ module _ {network : List Line} {counted : Counts} {times : List ℕ} (c : Counts
   unfolding on_timeline
   at-boundary n h =
       let e : counted.past + n ≡ on_timeline network n = omega (arith, c.past) in
-      rw e (t.holds (on_timeline network n) (on-timeline-mono network n (step_count network) h) ∙ timeline-time network n)
+      rw e (t.holds (on_timeline network n) (on-timeline-mono network n (step_count network) h) ∙ timeline-time-at network n)
 
   at-past : get_or times counted.past 0 ≡ timeline_time network (past_count network)
   unfolding on_timeline
