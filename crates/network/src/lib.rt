@@ -14,7 +14,7 @@ ghost use Rattle.network_signals.specs.Stages.{SignalsHeld};
 ghost use Rattle.network.specs.Loading.{first_checks, FirstAsked, end_checks, EndAsked, TablesJudged, timeline_checks, TimelineAsked, TimelineHeld, Rooms, LoadedFrom};
 ghost use Rattle.network.specs.Counting.{count_network, CountPromises};
 
-use base_search::{Reason, Refusal};
+use base_search::{Reason, Refusal, checked};
 use model::Signal;
 use network_tables::{
     Counts, Link, MAX_LINKS, MAX_MOVEMENTS, MAX_SIGNALS, MAX_TRAMS, Movement, NetworkTables,
@@ -28,12 +28,8 @@ fn check_end(text: &[u8], reading: Reading) -> Result<(), Refusal>
 {
     let counts = reading.counts;
     let line = counts.step_line(counts.steps) + 1;
-    base_search::checked(
-        text_reader::is_end(text, reading.next),
-        Reason::NetworkForm,
-        line,
-        0,
-    )
+    let ended = text_reader::is_end(text, reading.next);
+    checked(ended, Reason::NetworkForm, line, 0)
 }
 
 // The `T` and the `G` lines, then the trams' phases, which are reported at their `T` lines. After that no table of the trams is needed.

@@ -133,7 +133,7 @@ module _ {tables : NetworkTables} {demands : List ℕ} (asked : EndAsked tables 
         links-asked r =
             record {
               demand-size = asked.demand-size;
-              row-size = r;
+              row-room = r;
               arrival-size = loaded.arrivals-at.size;
               rising = rising-to (reading.counts.past + 1) (omega (arith, asked.counted.past, some));
               early = λ i l. let l' : i < link_count net = omega (arith, asked.counted.links) in

@@ -46,7 +46,7 @@ module _ (tables : NetworkTables) (demands row : List ℕ) (arrivals : List Arri
   -- what the test of link i asks of the tables
   pub record LinksAsked : Type 0 where
     pub demand-size : length demands ≡ max_links
-    pub row-size : length row ≡ row_size
+    pub row-room : length row ≡ row_size
     pub arrival-size : length arrivals ≡ max_links
     pub rising : Rising tables.times.now (tables.reading.counts.past + 1)
     pub early : (i : ℕ) → i < tables.reading.counts.links → (arrival_at arrivals i).step ≤ tables.reading.counts.past

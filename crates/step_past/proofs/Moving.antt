@@ -119,9 +119,6 @@ module _ {tables : NetworkTables} {at i to : ℕ} {before : List Arrival} (asked
       step_past : from + 1 < past_count (lines tables.text.now)
       step_past = omega (arith, asked.early, asked.asked.move-tables.counted.past)
 
-      pub from-few : from < 120
-      from-few = omega (arith, step_past, asked.asked.move-tables.counted.past, tables.sized.few.past)
-
       -- the line's step starts before the travel time ends
       reached : get_or tables.times.now (from + 1) 0 + travel_time_in tables.links.now i ≤ get_or tables.times.now at 0
       reached = arrival-reached tables.times.now at (travel_time_in tables.links.now i) from own_behind.cursor.rising (omega (arith, asked.is-step))
