@@ -64,8 +64,8 @@ module _ (items : List ℕ) (count : ℕ) (post : ℕ → ℕ → Type 0) where
     pub filled-most : k ≡ count → FilledMost count old row
     filled-most e = rw e at t.most
 
-    pub filled_all : k ≡ count → (f : ℕ → ℕ) → Gives post count f → Filled (picked count (is_in items) f) old row
-    filled_all e f g = rw e at (t.filled f g)
+    pub filled-row : k ≡ count → (f : ℕ → ℕ) → Gives post count f → Filled (picked count (is_in items) f) old row
+    filled-row e f g = rw e at (t.filled f g)
 
 -- the items in front of a table are filled
 pub filled-front : (items : List ℕ) (n : ℕ) (f : ℕ → ℕ) {old new : Row} → n ≤ length items → Filled (picked (length (take n items)) (is_in (take n items)) f) old new → Filled (picked n (is_in items) f) old new

@@ -15,7 +15,7 @@ use Rattle.network_tables.specs.declared.NetworkTables.{NetworkTables}
 use Rattle.network_tables.specs.Fields as fields
 use Rattle.network_tables.specs.Fields.{tram_by, tram_at, signal_at, link_by, link_at, movement_by, movement_at}
 use Rattle.network_writer.specs.declared.Output.{Output}
-use Rattle.network_writer.specs.Put.{Put, Early}
+use Rattle.network_writer.specs.Put.{Put}
 use Rattle.network_writer.specs.Texts.{line_texts, rows_to, RowIs}
 use Rattle.network_writer.proofs.Reading.{numbers-are}
 use Rattle.base_laws.proofs.Laws.{length-list}
@@ -82,9 +82,6 @@ signal-front network r few =
 
 module _ {whole : Whole} {old : Output} (a : SignalsAsked whole old) (half : HalfTables) {r : ℕ} (h : r < whole.tables.reading.counts.signals) {now : Output}
     (t : Put r (line_texts letter_g (picked r (is_in half.signals) (signal_row (whole_network whole)))) old now) where
-  pub signals-early : Early 1 now
-  signals-early = omega (arith, t.ends, t.few, a.early)
-
   pub signals-more : get_or half.signals r 0 ≢ 0 → {row : List ℕ} → row ≡ row_of (signal_at whole.signals.now r) → {width : ℕ} → width ≡ 6 + 2 * (signal_at whole.signals.now r).phases → {new : Output}
       → Put 1 (record_text letter_g (take width row)) now new → Put (r + 1) (line_texts letter_g (picked (r + 1) (is_in half.signals) (signal_row (whole_network whole)))) old new
   unfolding is_in

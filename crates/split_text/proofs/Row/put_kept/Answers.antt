@@ -1,5 +1,5 @@
 use Rattle.base_laws.proofs.Kit.{arith, refl}
-use Rattle.split_text.proofs.Filling.{filled_none, filled_next, filled-same, filled-most, filled_all}
+use Rattle.split_text.proofs.Filling.{filled_none, filled_next, filled-same, filled-most, filled-row}
 use Rattle.split_text.proofs.Row.put_kept.Goals as goal
 use Rattle.split_text.proofs.Row.put_kept.Goals.{then-item-ne0, else-item-ne0}
 
@@ -19,4 +19,4 @@ pub returns-clause-most : goal.returns-clause-most
 returns-clause-most g c = filled-most _ _ _ c.loop-k.invariant (omega arith)
 
 pub returns-clause-filled : goal.returns-clause-filled
-returns-clause-filled g c = filled_all _ _ _ c.loop-k.invariant (omega arith)
+returns-clause-filled g c = filled-row _ _ _ c.loop-k.invariant (omega arith)
