@@ -18,7 +18,8 @@ use network_tables::{
 };
 
 // Judges a plan on a network that has passed, from its signals on, which it steps on: the ledger's length, then the steps.
-// No struct of the four: two are read and two are written, and each caller has the four as they are.
+// No struct of the four: two are read and two are written, and each caller has the four as they are. That the tables are loaded is no fact of their type, since it
+// speaks of the signals too, which change while the tables stay.
 pub fn judge_loaded(
     plan: &[u8],
     tables: &NetworkTables,

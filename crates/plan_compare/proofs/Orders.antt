@@ -19,9 +19,9 @@ module _ (network one other : List Line) where
       let r = every-fails (suc (step_count network)) (λ n. leb (let_out_by network other n) (let_out_by network one n)) h in
       (r.0, omega (arith, r.1), leb-false _ _ r.2)
 
-  is-never-fewer : NeverFewer network one other → is_never_fewer network one other ≡ true
+  never-fewer-by-every : NeverFewer network one other → is_never_fewer network one other ≡ true
   unfolding is_never_fewer
-  is-never-fewer h = every_of (suc (step_count network)) (λ n. leb (let_out_by network other n) (let_out_by network one n)) (λ n l. le-leb _ _ (h n (omega arith)))
+  never-fewer-by-every h = every_of (suc (step_count network)) (λ n. leb (let_out_by network other n) (let_out_by network one n)) (λ n l. le-leb _ _ (h n (omega arith)))
 
   is-somewhere-fewer : SomewhereMore network other one → is_never_fewer network one other ≡ false
   is-somewhere-fewer m = go (is_never_fewer network one other) refl
@@ -45,10 +45,10 @@ module _ (network first second : List Line) where
   -- .. and in no other order do they
   pub stands-order : (o : Order) → Stands network o first second → o ≡ order network first second
   unfolding order
-  stands-order Ahead h = rw (is-never-fewer network first second h.0, is-somewhere-fewer network second first h.1)
-  stands-order Behind h = rw (is-never-fewer network second first h.0, is-somewhere-fewer network first second h.1)
+  stands-order Ahead h = rw (never-fewer-by-every network first second h.0, is-somewhere-fewer network second first h.1)
+  stands-order Behind h = rw (never-fewer-by-every network second first h.0, is-somewhere-fewer network first second h.1)
   stands-order Equal h =
-      rw (is-never-fewer network first second (λ n l. omega (arith, h n l)), is-never-fewer network second first (λ n l. omega (arith, h n l)))
+      rw (never-fewer-by-every network first second (λ n l. omega (arith, h n l)), never-fewer-by-every network second first (λ n l. omega (arith, h n l)))
   stands-order Crossing h = rw (is-somewhere-fewer network first second h.1, is-somewhere-fewer network second first h.0)
 
   pub order-swapped : order network second first ≡ swapped (order network first second)

@@ -13,7 +13,7 @@ use Rattle.sheet_lines.specs.Reading.{line_in, number_in}
 use Rattle.model_sheet.specs.Cycle.{phase_at, fits_at}
 use Rattle.sheet_writer.specs.declared.Run.{Run}
 use Rattle.step_arrivals.specs.Arrivals.{seconds_in}
-use Rattle.sheet_writer.specs.Tables.{CycleFits, RunAt, NextAsked, NextRun, time_in, TimesAsked, mask_in, fits_in, ColumnAsked, Column, ColumnGot, has_no_tram_in, can_write_in, boundary_checks_in, phase_in, MasksHeld}
+use Rattle.sheet_writer.specs.Tables.{CycleFits, RunAt, NextAsked, NextRun, time_in, mask_in, fits_in, ColumnAsked, Column, ColumnGot, has_no_tram_in, can_write_in, boundary_checks_in, phase_in, MasksHeld}
 use Rattle.sheet_writer.specs.Stages.{MasksAsked, MasksGot}
 use Rattle.sheet_writer.proofs.Runs.{run-phase, fits-run}
 use Rattle.base_laws.proofs.Tests.{every-not}

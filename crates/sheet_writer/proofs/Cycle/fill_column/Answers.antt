@@ -1,5 +1,4 @@
 -- `sheet_writer::Cycle::fill_column` meets its contract: one law for each way through a turn.
-use Rattle.base_laws.proofs.Kit.{arith}
 use Rattle.sheet_writer.proofs.Columns.{column-none, phase-few, step-within, column-broken, column-asked, column-more, column-all}
 use Rattle.sheet_writer.proofs.Cycle.fill_column.Goals as goal
 
