@@ -271,7 +271,9 @@ pub fn shown_phases(signals: &[Signal], count: usize, masks: &[u32], phases: &mu
     }
 }
 
-// The masks by which each signal keeps its phase, in front of a line's numbers.
+// The masks by which each signal keeps its phase, in front of a line's numbers. Not inlined, since only an empty plan comes to it: with the other such lines that
+// takes the corridor's plan to 6,747 instructions, from 6,813.
+#[inline(never)]
 pub fn hold_masks(signals: &[Signal], line: &mut [u32])
     requires few_signals { (length signals.now ≤ max_signals) × (length signals.now ≤ length line.old) }
     requires all_ready { AllReady signals.now (length signals.now) }
