@@ -206,7 +206,7 @@ impl SignalRule {
 }
 
 // Whether a signal that shows a phase keeps all six rules. Rules 12 and 13 are said anew, with the two times read through the reference: by their own tests, which take the
-// signal by value, the corridor's plan cost 0.7 % more and the largest 0.4 %. Not inlined, since few signals come to it: the largest takes 0.5 % less.
+// signal by value, the corridor's plan cost 0.7 % more and the largest 0.4 %. Not inlined, since few signals come to it: the corridor takes 0.3 % less.
 #[inline(never)]
 fn keeps_all(signal: &Signal, phase: u32, asked: u32, seconds: u32) -> bool
     requires ready { Ready signal.now }
