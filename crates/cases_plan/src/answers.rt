@@ -24,19 +24,12 @@ pub struct Question {
     pub link: u32,
 }
 
-// What is asked of a case's texts, and what is stored of the answer.
+// What is asked of a case's texts, by its number from 0, and what is stored of the answer.
 #[derive(Clone, Copy)]
 pub struct Case {
+    pub number: u32,
     pub question: Question,
     pub stored: Told,
-}
-
-// The ledgers and the buffer that a call is lent.
-#[derive(Drop)]
-pub struct Lent<'a> {
-    pub ledger: &'a mut [u32],
-    pub second_ledger: &'a mut [u32],
-    pub buffer: &'a mut [u8],
 }
 
 // What the library answers to a question, and the ledgers and the buffer that it leaves.
@@ -74,18 +67,20 @@ fn answer_to(
 
 // Judges a case by the library, on the ledgers and the buffer as they are before the call: whether the answer, and the checksum of what the call leaves, are
 // those of the other implementation. Where they are not, the case is printed.
-pub fn judge(rt: &impl Print, number: u32, texts: Texts<'_>, case: Case, lent: Lent<'_>) -> bool
-    ensures { result ≡ as_stored (told_to texts.entry lent.entry.ledger.now lent.entry.second_ledger.now lent.entry.buffer.now case.question) case.stored }
+pub fn judge(
+    rt: &impl Print,
+    texts: Texts<'_>,
+    case: Case,
+    ledger: &mut [u32],
+    second_ledger: &mut [u32],
+    buffer: &mut [u8],
+) -> bool
+    ensures { result ≡ as_stored (told_to texts.entry ledger.old second_ledger.old buffer.old case.question) case.stored }
 {
-    let Lent {
-        ledger,
-        second_ledger,
-        buffer,
-    } = lent;
     let outcome = answer_to(texts, ledger, second_ledger, buffer, case.question);
     let given = Told {
         outcome,
         checksum: checksum(ledger, second_ledger, buffer),
     };
-    agrees(rt, number, &given, &case.stored, true)
+    agrees(rt, case.number, &given, &case.stored, true)
 }

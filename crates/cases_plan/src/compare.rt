@@ -1,5 +1,5 @@
 // Reads the cases, judges each by the proved calls and counts.
-use crate::answers::{Case, Lent, Texts, judge};
+use crate::answers::{Case, Texts, judge};
 use crate::kept::Kept;
 use crate::stored::Filled;
 use crate::tally::COUNTERS;
@@ -46,7 +46,6 @@ struct Given<'a> {
 // Judges a case on ledgers and a buffer that are what they are before the call.
 fn judge_filled(
     rt: &impl Print,
-    number: u32,
     texts: Texts<'_>,
     case: Case,
     given: Given<'_>,
@@ -55,16 +54,14 @@ fn judge_filled(
     let mut ledger = [given.ledger.fill; LEDGER_ROOM];
     let mut second_ledger = [given.second_ledger.fill; LEDGER_ROOM];
     let mut buffer = [fill; BUFFER_ROOM];
-    let lent = Lent {
-        ledger: ledger.get_mut(..given.ledger.length).ok_or(Malformed)?,
-        second_ledger: second_ledger
-            .get_mut(..given.second_ledger.length)
-            .ok_or(Malformed)?,
-        buffer: buffer.get_mut(..given.buffer.length).ok_or(Malformed)?,
-    };
-    let start = lent.ledger.get_mut(..given.start.len()).ok_or(Malformed)?;
+    let ledger = ledger.get_mut(..given.ledger.length).ok_or(Malformed)?;
+    let second_ledger = second_ledger
+        .get_mut(..given.second_ledger.length)
+        .ok_or(Malformed)?;
+    let buffer = buffer.get_mut(..given.buffer.length).ok_or(Malformed)?;
+    let start = ledger.get_mut(..given.start.len()).ok_or(Malformed)?;
     start.copy_from_slice(given.start);
-    Ok(judge(rt, number, texts, case, lent))
+    Ok(judge(rt, texts, case, ledger, second_ledger, buffer))
 }
 
 // Reads one case and judges it: the place at which it is counted. One whose boundary or link no call takes is passed over.
@@ -93,14 +90,18 @@ fn run_case<R: Read>(
         plan,
         second,
     };
-    let case = Case { question, stored };
+    let case = Case {
+        number,
+        question,
+        stored,
+    };
     let given = Given {
         ledger,
         start,
         second_ledger,
         buffer: asked.buffer,
     };
-    Ok(if judge_filled(rt, number, texts, case, given)? {
+    Ok(if judge_filled(rt, texts, case, given)? {
         tally::place_of(asked.call, stored.outcome)
     } else {
         tally::DIFFERENT

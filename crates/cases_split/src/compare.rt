@@ -28,15 +28,6 @@ struct Case<'a> {
     told: Buffers<'a>,
 }
 
-// The buffers that a split writes to.
-#[derive(Drop)]
-struct Room<'a> {
-    network_1: &'a mut [u8],
-    plan_1: &'a mut [u8],
-    network_2: &'a mut [u8],
-    plan_2: &'a mut [u8],
-}
-
 // The place of the cases that were refused like this, or written.
 fn place_of(refusal: Option<Refusal>) -> usize {
     match refusal {
@@ -66,9 +57,16 @@ fn is_as_stored(
     agrees(rt, stored.number, &given, &expected, is_left)
 }
 
-// Splits by the library: whether all is as stored.
-fn judge(rt: &impl Print, case: Case<'_>, room: Room<'_>) -> bool
-    ensures { let before = buffers room.entry.network_1.now room.entry.plan_1.now room.entry.network_2.now room.entry.plan_2.now in
+// Splits by the library: whether all is as stored. The four buffers stand on their own: a `&mut` that is taken out of a struct and lent gets no proof.
+fn judge(
+    rt: &impl Print,
+    case: Case<'_>,
+    network_1: &mut [u8],
+    plan_1: &mut [u8],
+    network_2: &mut [u8],
+    plan_2: &mut [u8],
+) -> bool
+    ensures { let before = buffers network_1.old plan_1.old network_2.old plan_2.old in
         let split = texts case.entry.whole.network.now case.entry.whole.plan.now in
         let stored = case.entry.stored in
         result ≡ as_stored (answer_to split stored before) (left_by split stored before) stored
@@ -76,12 +74,6 @@ fn judge(rt: &impl Print, case: Case<'_>, room: Room<'_>) -> bool
 {
     let Texts { network, plan } = case.whole;
     let set = case.stored.first_half;
-    let Room {
-        network_1,
-        plan_1,
-        network_2,
-        plan_2,
-    } = room;
     let answer = split::split(network, plan, set, network_1, plan_1, network_2, plan_2);
     let left = Buffers {
         network_1,
@@ -103,13 +95,14 @@ fn judge_filled(
     let mut plan_1 = [rest; ROOM];
     let mut network_2 = [rest; ROOM];
     let mut plan_2 = [rest; ROOM];
-    let room = Room {
-        network_1: network_1.get_mut(..lengths.network_1).ok_or(Malformed)?,
-        plan_1: plan_1.get_mut(..lengths.plan_1).ok_or(Malformed)?,
-        network_2: network_2.get_mut(..lengths.network_2).ok_or(Malformed)?,
-        plan_2: plan_2.get_mut(..lengths.plan_2).ok_or(Malformed)?,
-    };
-    Ok(judge(rt, case, room))
+    Ok(judge(
+        rt,
+        case,
+        network_1.get_mut(..lengths.network_1).ok_or(Malformed)?,
+        plan_1.get_mut(..lengths.plan_1).ok_or(Malformed)?,
+        network_2.get_mut(..lengths.network_2).ok_or(Malformed)?,
+        plan_2.get_mut(..lengths.plan_2).ok_or(Malformed)?,
+    ))
 }
 
 // Reads one case and judges it: the place at which it is counted.
