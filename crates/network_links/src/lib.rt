@@ -159,7 +159,8 @@ fn bad_shares(movements: &[Movement], link: usize, sum: u64) -> Option<usize>
     last_movement(movements, link)
 }
 
-// Refusal 5 after all `M` lines: the shares by rising link, reported at the link's last movement.
+// Refusal 5 after all `M` lines: the shares by rising link, reported at the link's last movement. Inlined, for check_plan's speed (docs/MEASUREMENTS.md).
+#[inline(always)]
 pub fn check_shares(movements: &[Movement], counts: Counts) -> Result<(), Refusal>
     requires { SharesAsked movements.now counts }
     ensures { result ≡ verdict (each counts.links (share_checks_in movements.now counts)) }

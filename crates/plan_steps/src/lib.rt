@@ -182,8 +182,7 @@ pub fn read_line(
 
 impl Run<'_> {
     // Reads the lines of the next step, and what they have signals show and trams ask: the place behind them, or none where the `P` line is malformed.
-    // Inlined: with such lines of step_past, network_links and step_signals the corridor's plan takes 6,763 instructions, not 7,130, and the largest 1.435 times
-    // the twin, not 1.469 times.
+    // Inlined, for check_plan's speed (docs/MEASUREMENTS.md).
     #[inline(always)]
     pub fn read_lines(&self, place: Place, signals: &[Signal], lines: &mut Lines) -> Option<Place>
         requires { ReadAsked self.now place signals.now lines.old }

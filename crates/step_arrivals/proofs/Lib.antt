@@ -1,4 +1,3 @@
 pub mod Arrivals
 pub mod Timed
 pub mod Boundaries
-pub mod Times

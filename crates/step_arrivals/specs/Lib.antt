@@ -1,3 +1,2 @@
 pub mod Arrivals
 pub mod Timed
-pub mod Times

@@ -1,12 +1,10 @@
 // When vehicles arrive: the step in which a link's travel time before a boundary ends, and what has arrived by then. Steps and
-// boundaries are the timeline's here, by a table of its boundaries' times; the times of the plan's own boundaries, from time 0
-// on, are made from it.
+// boundaries are the timeline's here, by a table of its boundaries' times.
 #![tactic(auto)]
 
 ghost use Rattle.std.specs.Prelude.{◌≡◌, ◌+◌, ◌-◌, ◌<◌, ◌≤◌, length};
 ghost use Rattle.step_arrivals.specs.Arrivals.{arrival_step_in, seconds_in, elapsed_in, scaled_in, Cursor};
 ghost use Rattle.step_arrivals.specs.Timed.{TimeAsked, TimeSet};
-ghost use Rattle.step_arrivals.specs.Times.{ShiftAsked, Shifted};
 
 // Sets the time at the end of step `m`, if it and all steps before it last 1 to 60 seconds; else the table is kept.
 pub fn next_time(times: &mut [u32], m: usize, seconds: u32, timed: bool) -> bool
@@ -59,15 +57,4 @@ pub fn scaled_arrived(start: u32, end: u32, seconds: u32, elapsed: u32) -> u64
 {
     network_tables::times(start, seconds)
         + network_tables::times(end.saturating_sub(start), elapsed)
-}
-
-// Moves the table of times to time 0: place `n` gets the time of the plan's boundary `n`.
-pub fn from_start(times: &mut [u32], past: usize, steps: usize)
-    requires { ShiftAsked times.old past steps }
-    ensures { Shifted times.old past steps times.new }
-{
-    let base = times[past];
-    for n in 0..steps + 1 {
-        times[n] = times[past + n] - base;
-    }
 }

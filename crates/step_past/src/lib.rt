@@ -89,7 +89,8 @@ fn find_steps(tables: &NetworkTables, arrivals: &mut [Arrival])
     }
 }
 
-// Keeps what had entered each link whose travel time ends in the line's step, by the row at the step's end.
+// Keeps what had entered each link whose travel time ends in the line's step, by the row at the step's end. Inlined, for check_plan's speed (docs/MEASUREMENTS.md).
+#[inline(always)]
 fn keep_curves(line: &PastLine, row: &[u32], arrivals: &mut [Arrival])
     requires { KeepAsked line.now row.now arrivals.old }
     ensures { Kept line.now row.now arrivals.old arrivals.new }
@@ -108,6 +109,8 @@ fn keep_curves(line: &PastLine, row: &[u32], arrivals: &mut [Arrival])
 }
 
 // Row 0, by all `H` lines, in the front of `row`; and what each link waits for at boundary 0. `None` where a number of row 0 does not fit 32 bits.
+// Inlined, for check_plan's speed (docs/MEASUREMENTS.md).
+#[inline(always)]
 pub fn load_past(tables: &NetworkTables, row: &mut [u32], arrivals: &mut [Arrival]) -> Option<()>
     requires { PastAsked tables.now row.old arrivals.old }
     ensures { PastLoaded tables.now row.old result row.new arrivals.new }
@@ -159,6 +162,8 @@ fn move_links(
 }
 
 // Moves link `i`, whose travel time ends in past step `to`, on to the timeline's boundary `at`. An `H` line that is read for it moves the links behind it on too.
+// Not inlined, for check_plan's speed (docs/MEASUREMENTS.md).
+#[inline(never)]
 fn move_past(tables: &NetworkTables, at: usize, i: usize, to: usize, arrivals: &mut [Arrival])
     requires { PastMoveAsked tables.now at i to arrivals.old }
     ensures { Moved tables.now at i arrivals.old arrivals.new }

@@ -126,7 +126,7 @@ pub fn held_in(row: &[u32]) -> u64
     total
 }
 
-// Who waits at the start, as the `Q` lines have it. Not inlined, since it is asked once: with the other such lines the corridor's plan takes 1.1 % less.
+// Who waits at the start, as the `Q` lines have it. Not inlined, for check_plan's speed (docs/MEASUREMENTS.md).
 #[inline(never)]
 pub fn first_waiting(links: &[Link], waiting: &mut [u32])
     requires { FirstAsked links.now waiting.old }

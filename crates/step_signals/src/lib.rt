@@ -206,7 +206,7 @@ impl SignalRule {
 }
 
 // Whether a signal that shows a phase keeps all six rules. Rules 12 and 13 are said anew, with the two times read through the reference: by their own tests, which take the
-// signal by value, the corridor's plan cost 0.7 % more and the largest 0.4 %. Not inlined, since few signals come to it: the corridor takes 0.3 % less.
+// signal by value, the corridor's plan cost 0.7 % more and the largest 0.4 %. Not inlined, for check_plan's speed (docs/MEASUREMENTS.md).
 #[inline(never)]
 fn keeps_all(signal: &Signal, phase: u32, asked: u32, seconds: u32) -> bool
     requires ready { Ready signal.now }
@@ -271,8 +271,7 @@ pub fn shown_phases(signals: &[Signal], count: usize, masks: &[u32], phases: &mu
     }
 }
 
-// The masks by which each signal keeps its phase, in front of a line's numbers. Not inlined, since only an empty plan comes to it: with the other such lines that
-// takes the corridor's plan to 6,747 instructions, from 6,813.
+// The masks by which each signal keeps its phase, in front of a line's numbers. Not inlined, for check_plan's speed (docs/MEASUREMENTS.md).
 #[inline(never)]
 pub fn hold_masks(signals: &[Signal], line: &mut [u32])
     requires few_signals { (length signals.now ≤ max_signals) × (length signals.now ≤ length line.old) }

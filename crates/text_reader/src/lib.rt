@@ -101,7 +101,8 @@ fn tabbed_at(text: &[u8], at: usize) -> Option<FieldNumber>
     digits_from(text, start)
 }
 
-// Reads the numbers after a place where a field ends, in any text.
+// Reads the numbers after a place where a field ends, in any text. Not inlined, for check_plan's speed (docs/MEASUREMENTS.md).
+#[inline(never)]
 fn guarded_numbers_at(text: &[u8], at: usize, out: &mut [u32]) -> Numbers
     requires { field_at text.now at ≡ [] }
     ensures { GotNumbers text.now at out.old result out.new }
@@ -165,7 +166,8 @@ fn sentinel_tabbed_at(text: &[u8], at: usize) -> Ended
     }
 }
 
-// Reads the numbers after a tab in a text that a line feed ends.
+// Reads the numbers after a tab in a text that a line feed ends. Not inlined, for check_plan's speed (docs/MEASUREMENTS.md).
+#[inline(never)]
 fn sentinel_numbers_at(text: &[u8], at: usize, out: &mut [u32]) -> Numbers
     requires at_value { field_at text.now at ≡ [] }
     requires at_value_2 { get_or text.now at 0 ≡ 9 }
