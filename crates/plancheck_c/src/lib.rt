@@ -198,7 +198,7 @@ impl From<Result<CellsRun, Refusal>> for CellsResult {
     ghost from_gives = { λ answer told. told ≡ cells_result answer (volumes_in answer) };
 
     fn from(answer: Result<CellsRun, Refusal>) -> CellsResult {
-        // Not by `..CellsResult::default()`: a struct with an array, built from another, gets no proof.
+        // Not by `..CellsResult::default()`: an array that is taken straight out of another struct gets no proof.
         match answer {
             Ok(run) => {
                 let volumes = run.volumes;
