@@ -64,7 +64,7 @@ impl From<Result<(), Refusal>> for NetworkResult {
 
 // What a network has; number 0: it is valid, with these counts.
 #[repr(C)]
-#[derive(Clone, Copy, Default)]
+#[derive(Clone, Copy)]
 pub struct CountsResult {
     pub number: u32,
     pub line: u32,
@@ -315,19 +315,26 @@ pub extern "C" fn plancheck_network_counts(network: &[u8]) -> CountsResult
     // Not by `From`, which may ask nothing of the counts: that they fit, `count_network` promises.
     match network::count_network(network) {
         Ok(counts) => CountsResult {
+            number: 0,
+            line: 0,
+            item: 0,
             links: counts.links as u32,
             signals: counts.signals as u32,
             movements: counts.movements as u32,
             steps: counts.steps as u32,
             trams: counts.trams as u32,
             past: counts.past as u32,
-            ..CountsResult::default()
         },
         Err(r) => CountsResult {
             number: r.number,
             line: r.line,
             item: r.item,
-            ..CountsResult::default()
+            links: 0,
+            signals: 0,
+            movements: 0,
+            steps: 0,
+            trams: 0,
+            past: 0,
         },
     }
 }
