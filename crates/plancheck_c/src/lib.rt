@@ -313,6 +313,7 @@ pub extern "C" fn plancheck_network_counts(network: &[u8]) -> CountsResult
     ensures padding_ignored { PaddingIgnored network.now (λ padded. result ≡ counts_result (count_network (lines padded))) }
 {
     // Not by `From`, which may ask nothing of the counts: that they fit, `count_network` promises.
+    // Not by `..CountsResult::default()` either: tried, the proof of its two returns, which cites whole literals, didn't close.
     match network::count_network(network) {
         Ok(counts) => CountsResult {
             number: 0,
