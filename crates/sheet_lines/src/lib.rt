@@ -8,10 +8,10 @@ ghost use Rattle.sheet_lines.specs.Sheet.{valid_numbers};
 ghost use Rattle.sheet_lines.specs.Reading.{number_in, NumbersAsked, LineAsked, LineRead, SheetAsked, SheetRead};
 
 use base_search::{Reason, Refusal};
-use model::Signal;
+use model::{MAX_PHASES, Signal};
 
-// How many numbers a line has at most: eight durations and an offset.
-pub const SHEET_FIELDS: usize = 9;
+// How many numbers a line has at most: a duration for each phase, and an offset.
+pub const SHEET_FIELDS: usize = MAX_PHASES + 1;
 
 // The numbers of a line: a duration for each phase, and the offset behind them.
 pub type SheetLine = [u32; SHEET_FIELDS];
