@@ -40,7 +40,7 @@ pub enum Reason {
 }
 
 impl Reason {
-    // Its number in answers.
+    // Its number in answers. Not by discriminants: the wrong program that gives two reasons one number would not compile.
     pub fn number(self) -> u32
         ensures { result ≡ reason_number self }
     {
@@ -86,7 +86,8 @@ impl Reason {
 }
 
 // A refusal: the number of the broken check, and the line and the item that it names, 0 where it names none. These are counted as places in tables are, and told
-// in 32 bits, so that whoever makes one says that they fit.
+// in 32 bits, so that whoever makes one says that they fit. The number is no `Reason`: C callers and stored cases read it as a number, and a step's rules, whose
+// enums stand in crates above, tell theirs by it too.
 #[derive(Clone, Copy, PartialEq, Eq)]
 pub struct Refusal {
     pub number: u32,

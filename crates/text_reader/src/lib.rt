@@ -6,6 +6,12 @@ ghost use Rattle.text_reader.specs.Field.{digit, largest};
 ghost use Rattle.text_reader.specs.Lines.{starts_as};
 ghost use Rattle.text_reader.specs.Reading.{line_at, leading_as, field_at, separator, rest_at, DigitsRead, starts_with, tab_before_sentinel, tabbed_at, EndsAs, record_at, at_end, Got, GotNumbers, GotNumbersAs};
 
+// How many digits a field has at most.
+const MAX_DIGITS: usize = 10;
+
+// The digit 0, as a byte of a text.
+const ZERO: u32 = 48;
+
 // The number of a field, and the place where that field ends.
 #[derive(Clone, Copy)]
 struct FieldNumber {
@@ -14,7 +20,7 @@ struct FieldNumber {
 }
 
 // The number of the field after a tab, and which byte ends that field. No `Option`: where the byte behind a number is tested again for the next one, the largest
-// check_network takes 7 % more instructions.
+// check_plan takes 4.9 % more instructions, and misses the bar of 1.45 x the twin (bench/twin.c).
 #[derive(Clone, Copy)]
 enum Ended {
     ByTab(FieldNumber),
@@ -31,11 +37,11 @@ enum Numbers {
     Missing,
 }
 
-// On 32 bits: by `is_ascii_digit` of the byte the largest check_plan takes 5 to 8 % more instructions.
+// On 32 bits: by `is_ascii_digit` of the byte the largest check_plan takes 5 to 8 % more instructions, and misses the bar of 1.45 x the twin (bench/twin.c).
 fn is_digit(b: u32) -> bool
     ensures { result ≡ digit b }
 {
-    (48..=57).contains(&b)
+    (ZERO..=57).contains(&b)
 }
 
 fn is_separator(b: u8) -> bool
@@ -59,7 +65,7 @@ fn shifted(value: u32, b: u32) -> Option<u32>
     requires { (48 ≤ b) × (b ≤ 57) }
     ensures { SomeIff result (value * 10 + (b - 48) ≤ largest) (value * 10 + (b - 48)) }
 {
-    value.checked_mul(10)?.checked_add(b - 48)
+    value.checked_mul(10)?.checked_add(b - ZERO)
 }
 
 // The number whose digits start at a place, and the place where its field ends: each place is held against the end of the text.
@@ -75,7 +81,7 @@ fn digits_from(text: &[u8], from: usize) -> Option<FieldNumber>
                 next: from + k,
             });
         }
-        if k == 10 || !byte.is_ascii_digit() {
+        if k == MAX_DIGITS || !byte.is_ascii_digit() {
             return None;
         }
         // More digits never bring a number down, so it is given up here.
@@ -122,16 +128,16 @@ fn guarded_numbers_at(text: &[u8], at: usize, out: &mut [u32]) -> Numbers
     }
 }
 
-// The number of the digits at a place, ten at most, and the place behind them, in a text that a line feed ends: that it does is found once for a line, and asked of
-// the three functions that rest on it. The line feed is the sentinel: no digit is the last byte, so no place is held against
-// the end. The compiler unrolls the loop and finds that only a tenth digit can lack room.
+// The number of the digits at a place, ten at most, and the place behind them, in a text that a line feed ends. The line feed is the sentinel: no digit is
+// the last byte, so no place is held against the end. Each of the three functions that rest on it asks for it: a struct that lends such a text was not tried, since
+// it would be one type more, for these alone. The compiler unrolls the loop and finds that only a tenth digit can lack room.
 fn sentinel_digits_from(text: &[u8], from: usize) -> Option<FieldNumber>
     requires from_in_bounds { from < length text.now }
     requires text_value { get_or text.now (length text.now - 1) 0 ≡ 10 }
     ensures { DigitsRead text.now from result }
 {
     let mut value: u32 = 0;
-    for k in 0..10 {
+    for k in 0..MAX_DIGITS {
         let i = from + k;
         let b = u32::from(text[i]);
         if !is_digit(b) {
@@ -141,7 +147,7 @@ fn sentinel_digits_from(text: &[u8], from: usize) -> Option<FieldNumber>
     }
     Some(FieldNumber {
         value,
-        next: from + 10,
+        next: from + MAX_DIGITS,
     })
 }
 
@@ -166,7 +172,8 @@ fn sentinel_tabbed_at(text: &[u8], at: usize) -> Ended
     }
 }
 
-// Reads the numbers after a tab in a text that a line feed ends. Not inlined, for check_plan's speed (docs/MEASUREMENTS.md).
+// Reads the numbers after a tab in a text that a line feed ends. By index: the last place is told by its number and the length, which `iter_mut` would have lent.
+// Not inlined, for check_plan's speed (docs/MEASUREMENTS.md).
 #[inline(never)]
 fn sentinel_numbers_at(text: &[u8], at: usize, out: &mut [u32]) -> Numbers
     requires at_value { field_at text.now at ≡ [] }
