@@ -1,7 +1,7 @@
 -- The steps of a plan, taken one after another.
 use Rattle.base_laws.proofs.Kit.{ℕ, zero, suc, ◌+◌, ◌*◌, ◌≤◌, ◌<◌, ◌≡◌, refl, sym, ap, ◌∙◌, Bool, true, false, cond, List, [], dec_le, mul-le-mul_right, add-one, arith, le-leb, eqb, length, take, List·getD-eq-default}
 use Rattle.base_search.specs.declared.Refusal.{Refusal}
-use Rattle.base_search.specs.Checks.{refusal, verdict, Hold}
+use Rattle.base_search.specs.Checks.{refusal, checked, verdict, Hold}
 use Rattle.base_search.proofs.Laws.{hold-of-passes}
 use Rattle.text_reader.specs.Lines.{Line, no_line, lines, is_record}
 use Rattle.text_reader.specs.Reading.{at_end}
@@ -80,14 +80,16 @@ lines-within network plan (suc m) h = elim (dec_le (length plan) m) [
         cc
 
 -- what `finish` returns
-module _ (plan : List ℕ) (at steps : ℕ) (t : Totals) (b : Bool) (e : b ≡ at_end plan at) where
-  pub finish-end : b ≡ true → Ok t ≡ finished plan at steps t
-  unfolding finished
-  finish-end h = rw (← e, h)
+module _ (plan : List ℕ) (at steps : ℕ) (t : Totals) where
+  pub finish-end : (b : Bool) → b ≡ at_end plan at → checked b 9 (steps + 1) 0 ≡ Ok tt → Ok t ≡ finished plan at steps t
+  unfolding finished checked
+  finish-end true e h = rw (← e) refl
+  finish-end false e h = cc
 
-  pub finish-more : b ≡ false → Err (refusal 9 (steps + 1) 0) ≡ finished plan at steps t
-  unfolding finished
-  finish-more h = rw (← e, h)
+  pub finish-more : (b : Bool) → b ≡ at_end plan at → (q : Refusal) → checked b 9 (steps + 1) 0 ≡ Err q → Err q ≡ finished plan at steps t
+  unfolding finished checked
+  finish-more true e q h = cc
+  finish-more false e q h = let told : q ≡ refusal 9 (steps + 1) 0 = cc in rw (← e, told) refl
 
 -- ---- the first steps
 module _ {plan_text : List ℕ} {tables : NetworkTables} {steps : ℕ} {signals₀ : List Signal} {waiting₀ old : List ℕ} (a : StepsAsked plan_text tables steps signals₀ waiting₀ old) where

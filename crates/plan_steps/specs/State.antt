@@ -20,6 +20,7 @@ use Rattle.step_past.specs.declared.Arrival.{Arrival}
 use Rattle.step_past.specs.Curves.{ArrivalTable, CurvesAt}
 use Rattle.step_rows.specs.Waiting.{waiting_in, WaitsAsked, Waits, WaitingTable}
 use Rattle.step_signals.specs.Step.{AdvanceAsked, Advanced, SignalsAt}
+use Rattle.plan_steps.specs.declared.Place.{Place}
 use Rattle.plan_steps.specs.declared.State.{State}
 use Rattle.plan_steps.specs.declared.Lines.{Lines}
 use Rattle.plan_steps.specs.declared.Run.{Run}
@@ -46,10 +47,13 @@ pub record FirstAsked (tables : NetworkTables) (waiting row : List ℕ) : Type 0
   pub waiting-size : length waiting ≡ max_links
   pub room : 2 * tables.reading.counts.links ≤ length row
 
+abbrev pub first_place : ℕ → Place
+first_place step_at = record { boundary = 0; step_at = step_at; plan_at = 0 }
+
 abbrev pub first_state : NetworkTables → List ℕ → List ℕ → State
 first_state tables waiting row =
     record {
-      place = record { boundary = 0; step_at = tables.reading.steps_at; plan_at = 0 };
+      place = first_place tables.reading.steps_at;
       totals = record { admitted = 0; let_out = 0; inside = held_in tables.reading.counts row; doubled_time = 0 };
       outside = sum tables.reading.counts.links (waiting_in waiting);
     }

@@ -6,10 +6,10 @@ ghost use Rattle.model.specs.Network.{max_steps};
 ghost use Rattle.plan_steps.specs.PlanLine.{LineAsked, LineGot};
 ghost use Rattle.plan_steps.specs.Totals.{totals_after, TotalsAsked};
 ghost use Rattle.plan_steps.specs.Reading.{Cleared, ReadAsked, ReadGot};
-ghost use Rattle.plan_steps.specs.State.{FirstAsked, first_state, NextAsked, NextGot, StepAsked, StepGot, finished};
+ghost use Rattle.plan_steps.specs.State.{first_place, FirstAsked, first_state, NextAsked, NextGot, StepAsked, StepGot, finished};
 ghost use Rattle.plan_steps.specs.Steps.{StepsAsked, StepsGot, RunAsked, RunGot};
 
-use base_search::{Reason, Refusal};
+use base_search::{Reason, Refusal, checked};
 use model::{Signal, Totals};
 use network_tables::{
     Counts, LINE_SIZE, MAX_LINKS, MAX_SIGNALS, MAX_TRAMS, NetworkTables, ROW_SIZE, STEP_SIZE, Tram,
@@ -24,6 +24,19 @@ pub struct Place {
     pub boundary: usize,
     pub step_at: usize,
     pub plan_at: usize,
+}
+
+impl Place {
+    // Before the first step, whose `S` line starts there.
+    pub fn first(step_at: usize) -> Self
+        ensures { result ≡ first_place step_at }
+    {
+        Place {
+            boundary: 0,
+            step_at,
+            plan_at: 0,
+        }
+    }
 }
 
 // The state at a boundary: the place of the next step's lines, the totals so far, and how many wait outside.
@@ -114,11 +127,7 @@ fn first_state(tables: &NetworkTables, waiting: &[u32], row: &[u32]) -> State
         doubled_time: 0,
     };
     State {
-        place: Place {
-            boundary: 0,
-            step_at: tables.reading.steps_at,
-            plan_at: 0,
-        },
+        place: Place::first(tables.reading.steps_at),
         totals,
         outside: step_rows::sum_of(&waiting[..counts.links]),
     }
@@ -259,11 +268,13 @@ fn finish(plan: &[u8], at: usize, steps: usize, totals: Totals) -> Result<Totals
     requires { steps ≤ max_steps }
     ensures { result ≡ finished plan.now at steps totals }
 {
-    if text_reader::is_end(plan, at) {
-        Ok(totals)
-    } else {
-        Err(Reason::PlanForm.refusal(steps + 1, 0))
-    }
+    checked(
+        text_reader::is_end(plan, at),
+        Reason::PlanForm,
+        steps + 1,
+        0,
+    )?;
+    Ok(totals)
 }
 
 // Takes the first steps, so many, one after another, up to the first that is refused: row 0 is written, and the past gives what arrives before time 0. The state

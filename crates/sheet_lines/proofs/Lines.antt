@@ -1,7 +1,7 @@
 -- The lines of a sheet, read and judged one after another: one law for each way through a turn of a loop.
 use Rattle.base_laws.proofs.Kit.{ℕ, zero, suc, ◌+◌, ◌*◌, ◌≤◌, ◌<◌, ◌≡◌, refl, sym, ap, ap₂, ◌∙◌, Bool, true, false, not, ◌⊎◌, inl, inr, List, [], ℕ_discrete, add-one, eq-or-lt_of_le, arith, leb-true, leb, ltb, eqb, length, take, length-take, get_or, get_or-take, set, length-set, get_or-set_same, get_or-set_other}
 use Rattle.base_search.specs.declared.Refusal.{Refusal}
-use Rattle.base_search.specs.Checks.{refusal, Checks, or_else, checked, verdict}
+use Rattle.base_search.specs.Checks.{refusal, Checks, Verdict, or_else, checked, verdict}
 use Rattle.base_search.proofs.Laws.{or-else-passes, or-else-refused}
 use Rattle.text_reader.specs.Lines.{lines}
 use Rattle.text_reader.specs.Reading.{Starts, at_end}
@@ -152,7 +152,7 @@ module _ {signals : List Signal} {text : List ℕ} {table₀ : List (List ℕ)} 
       ended : t ≡ eqb (length (lines text)) (length signals)
       ended = let q : r ≡ length signals = omega (arith, inv.passed.within) in e ∙ starts-end text place r inv.starts inv.within ∙ ap (eqb (length (lines text))) q
 
-      pub read_all : t ≡ true → SheetRead signals (from_bool b) text (Ok tt) table
+      read_all : t ≡ true → SheetRead signals (from_bool b) text (Ok tt) table
       unfolding signals_checks verdict checked
       read_all y =
           record {
@@ -160,13 +160,21 @@ module _ {signals : List Signal} {text : List ℕ} {table₀ : List (List ℕ)} 
             held = λ p. let q : r ≡ length signals = omega (arith, inv.passed.within) in rw q at inv.rows;
           }
 
-      pub read-surplus : t ≡ false → {q : Refusal} → q ≡ refusal 33 (length signals + 1) 0 → SheetRead signals (from_bool b) text (Err q) table
+      read-surplus : t ≡ false → {q : Refusal} → q ≡ refusal 33 (length signals + 1) 0 → SheetRead signals (from_bool b) text (Err q) table
       unfolding signals_checks verdict checked
       read-surplus f z =
           record {
             told = rw (z, add-one) (sym (or-else-passes _ _ (passed-all inv.passed h) ∙ rw (sym ended ∙ f)));
             held = λ p. let w : ◌≡◌ {A = ℕ} 0 1 = cc in absurd (omega arith);
           }
+
+      pub read-ended : {result : Verdict} → result ≡ checked t 33 (length signals + 1) 0 → SheetRead signals (from_bool b) text result table
+      unfolding checked
+      read-ended z = rw z (go t refl)
+        where
+          go : (u : Bool) → t ≡ u → SheetRead signals (from_bool b) text (checked u 33 (length signals + 1) 0) table
+          go true y = read_all y
+          go false y = read-surplus y refl
 
     module _ (h : r < length signals) where
       pub line-asked : LineAsked (signal_at signals r) (line_in table r)

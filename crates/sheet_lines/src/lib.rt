@@ -7,7 +7,7 @@ ghost use Rattle.base_laws.specs.Test.{within};
 ghost use Rattle.sheet_lines.specs.Sheet.{valid_numbers};
 ghost use Rattle.sheet_lines.specs.Reading.{number_in, NumbersAsked, LineAsked, LineRead, SheetAsked, SheetRead};
 
-use base_search::{Reason, Refusal};
+use base_search::{Reason, Refusal, checked};
 use model::{MAX_PHASES, Signal};
 
 // How many numbers a line has at most: a duration for each phase, and an offset.
@@ -74,8 +74,10 @@ pub fn read_sheet(
         };
         place = next;
     }
-    if !text_reader::is_end(text, place) {
-        return Err(Reason::SheetLine.refusal(signals.len() + 1, 0));
-    }
-    Ok(())
+    checked(
+        text_reader::is_end(text, place),
+        Reason::SheetLine,
+        signals.len() + 1,
+        0,
+    )
 }

@@ -77,7 +77,7 @@ fn moves_open(step: &Step, j: usize) -> bool
 }
 
 impl LimitRule {
-    // Its number in the paper.
+    // Its number in the paper. By a match: as discriminants, a wrong program that gives two variants one number would not compile.
     pub fn number(self) -> u32
         ensures { result ≡ limit_rule_number self }
     {

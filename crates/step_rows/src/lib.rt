@@ -51,7 +51,7 @@ fn add_at(row: &mut [u32], at: usize, volume: u32)
     ensures { row.new ≡ set row.old at (get_or row.old at 0 + volume) }
 {
     if volume != 0 {
-        row[at] = row[at] + volume;
+        row[at] += volume;
     }
 }
 

@@ -159,21 +159,21 @@ fn keeps_cycle(signal: Signal, phase: u32, seconds: u32) -> bool
 }
 
 // The signal after a step that shows a phase for so many seconds.
-fn after(mut signal: Signal, phase: u32, seconds: u32) -> Signal
+fn after(signal: Signal, phase: u32, seconds: u32) -> Signal
     requires ready { Ready signal }
     requires seconds_bound { seconds ≤ 60 }
     ensures { result ≡ after signal phase seconds }
 {
-    let shown_for = shown_for_after(signal, phase, seconds);
-    let cycle_clock = clock_after(signal, phase, seconds);
-    signal.shown = phase;
-    signal.shown_for = shown_for;
-    signal.cycle_clock = cycle_clock;
-    signal
+    Signal {
+        shown: phase,
+        shown_for: shown_for_after(signal, phase, seconds),
+        cycle_clock: clock_after(signal, phase, seconds),
+        ..signal
+    }
 }
 
 impl SignalRule {
-    // Its number in the paper.
+    // Its number in the paper. By a match: as discriminants, a wrong program that gives two variants one number would not compile.
     pub fn number(self) -> u32
         ensures { result ≡ signal_rule_number self }
     {

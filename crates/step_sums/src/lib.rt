@@ -139,7 +139,7 @@ impl StepRows<'_> {
 }
 
 impl SumRule {
-    // Its number in the paper.
+    // Its number in the paper. By a match: as discriminants, a wrong program that gives two variants one number would not compile.
     pub fn number(self) -> u32
         ensures { result ≡ sum_rule_number self }
     {

@@ -1,11 +1,11 @@
 -- `plan_steps::finish` meets its contract.
+use Rattle.base_search.proofs.Laws.{passed_on}
+use Rattle.base_laws.proofs.Kit.{sym, ◌∙◌}
 use Rattle.plan_steps.proofs.Runs.{finish-end, finish-more}
-use Rattle.base_laws.proofs.Kit.{ap, ◌∙◌}
 use Rattle.plan_steps.proofs.finish.Goals as goal
-use Rattle.std.specs.Prelude.{Err}
 
-pub returns-then-is_end : goal.returns-then-is_end
-returns-then-is_end c = finish-end _ _ _ _ _ c.is_end.ensures c.if-is_end.true
+pub returns-in_err-checked : goal.returns-in_err-checked
+returns-in_err-checked c = rw (passed_on _ _ c.from_residual.ensures.1) (finish-more _ _ _ _ _ c.is_end.ensures _ (sym c.checked.ensures ∙ c.in_err-checked.was))
 
-pub returns-else-is_end : goal.returns-else-is_end
-returns-else-is_end c = ap Err c.refusal.ensures ∙ finish-more _ _ _ _ _ c.is_end.ensures c.if-is_end.false
+pub returns : goal.returns
+returns c = finish-end _ _ _ _ _ c.is_end.ensures (sym c.checked.ensures ∙ c.in_ok-checked.was)

@@ -10,4 +10,4 @@ returns c =
     let a = c.args in
     let l = a.tables.now.reading.counts.links in
     let inside = rw front at c.held_in.ensures.0 in
-    rw (inside, held-cut a.row.now l c.requires.room, c.sum_of.ensures.0, waiting-sum a.waiting.now l (omega (arith, c.requires.few, c.requires.waiting-size))) refl
+    rw (c.first.ensures, inside, held-cut a.row.now l c.requires.room, c.sum_of.ensures.0, waiting-sum a.waiting.now l (omega (arith, c.requires.few, c.requires.waiting-size))) refl

@@ -1,4 +1,4 @@
-use Rattle.sheet_lines.proofs.Lines.{read_none, line-asked, read-refused, read_next, read_all, read-surplus}
+use Rattle.sheet_lines.proofs.Lines.{read_none, line-asked, read-refused, read_next, read-ended}
 use Rattle.sheet_lines.proofs.read_sheet.Goals as goal
 
 pub loop-r-init : goal.loop-r-init
@@ -13,8 +13,5 @@ returns-in_default c = read-refused c.requires c.args.offset c.loop-r.invariant 
 pub loop-r-preserved : goal.loop-r-preserved
 loop-r-preserved c = read_next c.requires c.args.offset c.loop-r.invariant c.loop-r-test.true c.read_line.ensures c.in-Some.is
 
-pub returns-then-not-is_end : goal.returns-then-not-is_end
-returns-then-not-is_end c = read-surplus c.requires c.args.offset c.loop-r.invariant c.loop-r-test.false c.is_end.ensures c.if-not-is_end.true c.refusal-then-not-is_end.ensures
-
 pub returns : goal.returns
-returns c = read_all c.requires c.args.offset c.loop-r.invariant c.loop-r-test.false c.is_end.ensures c.if-not-is_end.false
+returns c = read-ended c.requires c.args.offset c.loop-r.invariant c.loop-r-test.false c.is_end.ensures c.checked.ensures
