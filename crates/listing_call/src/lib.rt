@@ -16,10 +16,8 @@ ghost use Rattle.listing_call.specs.Writing.{WriteGot};
 use base_search::{Reason, Refusal};
 use listing_lines::{Setting, Variable};
 use model::{MAX_PHASES, Signal};
-use network_tables::{
-    Counts, LINE_SIZE, Link, MAX_LINKS, MAX_MOVEMENTS, MAX_SIGNALS, MAX_STEPS, Movement,
-    TIME_TABLE_SIZE,
-};
+use network::Room;
+use network_tables::{Counts, LINE_SIZE, MAX_LINKS, MAX_MOVEMENTS, MAX_SIGNALS, MAX_STEPS};
 use network_writer::{ADMITTED_AT, LET_OUT_AT, MOVED_AT};
 
 // Where the bits of what is admitted, let out and moved start in a step's row, behind those of the phases.
@@ -236,16 +234,8 @@ pub fn plan_from_listing(network: &[u8], listing: &[u8], out: &mut [u8]) -> Resu
     ensures padding_ignored { PaddingIgnored network.now (λ padded. PlanGot (lines padded) (entries listing.now) out.old result out.new) }
 {
     let mut signals = [Signal::default(); MAX_SIGNALS];
-    let mut links = [Link::default(); MAX_LINKS];
-    let mut movements = [Movement::default(); MAX_MOVEMENTS];
-    let mut times = [0u32; TIME_TABLE_SIZE];
-    let loaded = network::read_network(
-        network,
-        &mut signals,
-        &mut links,
-        &mut movements,
-        &mut times,
-    )?;
+    let mut room = Room::default();
+    let loaded = network::read_network(network, &mut signals, &mut room)?;
     let counts = loaded.reading.counts;
     let tables = Tables {
         counts,

@@ -21,6 +21,14 @@ use network_tables::{
     Reading, TIME_TABLE_SIZE, Tram,
 };
 
+// The room for what a network's reading gives but for its signals: for that of the largest network, since there is no heap.
+#[derive(Clone, Copy, Default)]
+pub struct Room {
+    links: [Link; MAX_LINKS],
+    movements: [Movement; MAX_MOVEMENTS],
+    times: [u32; TIME_TABLE_SIZE],
+}
+
 // After the `S` lines: refusal 1 for a surplus line, reported at the line after the last.
 fn check_end(text: &[u8], reading: Reading) -> Result<(), Refusal>
     requires { EndAsked text.now reading }
@@ -75,10 +83,8 @@ fn read_timeline<'a>(
     Ok(tables)
 }
 
-// Reads a network into tables of its signals, its links, its movements and the time of each boundary of the timeline, and judges it: refusals 1 to 6, 28 and 30.
-// Each call makes the four tables itself: lent to a closure by one function, what a closure leaves in a ledger is unknown to the call's proof (tried), and in one
-// struct they cost 2,500 instructions more on the corridor, whose bar is 6,800.
-pub fn read_network<'a>(
+// Reads a network into four tables, and judges it, in the order of its lines.
+fn read_tables<'a>(
     text: &'a [u8],
     signals: &mut [Signal],
     links: &'a mut [Link],
@@ -97,6 +103,22 @@ pub fn read_network<'a>(
     read_timeline(text, reading, links, movements, times)
 }
 
+// Reads a network into tables of its signals, its links, its movements and the time of each boundary of the timeline, and judges it: refusals 1 to 6, 28 and 30.
+pub fn read_network<'a>(
+    text: &'a [u8],
+    signals: &mut [Signal; MAX_SIGNALS],
+    room: &'a mut Room,
+) -> Result<NetworkTables<'a>, Refusal>
+    ensures { TablesJudged (network_checks (lines text.now)) (LoadedFrom text.now signals.new) result }
+{
+    let Room {
+        links,
+        movements,
+        times,
+    } = room;
+    read_tables(text, signals, links, movements, times)
+}
+
 // Counts what a valid network has: refusals 1 to 6, 28 and 30.
 pub fn count_network(text: &[u8]) -> Result<Counts, Refusal>
     ensures value { result ≡ count_network (lines text.now) }
@@ -104,10 +126,8 @@ pub fn count_network(text: &[u8]) -> Result<Counts, Refusal>
     ensures padding_ignored { PaddingIgnored text.now (λ padded. result ≡ count_network (lines padded)) }
 {
     let mut signals = [Signal::default(); MAX_SIGNALS];
-    let mut links = [Link::default(); MAX_LINKS];
-    let mut movements = [Movement::default(); MAX_MOVEMENTS];
-    let mut times = [0u32; TIME_TABLE_SIZE];
-    let tables = read_network(text, &mut signals, &mut links, &mut movements, &mut times)?;
+    let mut room = Room::default();
+    let tables = read_network(text, &mut signals, &mut room)?;
     Ok(tables.reading.counts)
 }
 

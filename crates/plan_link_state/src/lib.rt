@@ -10,9 +10,8 @@ ghost use Rattle.plan_link_state.specs.State.{Tabled, OverAsked, EnteredOver, ar
 
 use base_search::{Reason, Refusal, checked};
 use model::{LinkState, Signal};
-use network_tables::{
-    Link, MAX_LINKS, MAX_MOVEMENTS, MAX_SIGNALS, Movement, NetworkTables, TIME_TABLE_SIZE,
-};
+use network::Room;
+use network_tables::{MAX_SIGNALS, NetworkTables};
 use step_past::Arrival;
 
 // What has arrived at a link's end × the length of the step in which the travel time ends; that length; and whether the entered count does not fall over a step
@@ -127,15 +126,7 @@ pub fn link_state(
     ensures padding_ignored { PaddingIgnored network.now (λ padded. result ≡ link_state (lines padded) ledger.now boundary link) }
 {
     let mut signals = [Signal::default(); MAX_SIGNALS];
-    let mut links = [Link::default(); MAX_LINKS];
-    let mut movements = [Movement::default(); MAX_MOVEMENTS];
-    let mut times = [0u32; TIME_TABLE_SIZE];
-    let tables = network::read_network(
-        network,
-        &mut signals,
-        &mut links,
-        &mut movements,
-        &mut times,
-    )?;
+    let mut room = Room::default();
+    let tables = network::read_network(network, &mut signals, &mut room)?;
     state_by(&tables, ledger, boundary, link)
 }

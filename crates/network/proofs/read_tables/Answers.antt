@@ -1,7 +1,7 @@
--- `network::read_network` meets its contract.
+-- `network::read_tables` meets its contract.
 use Rattle.base_search.proofs.Laws.{passed_on}
 use Rattle.network.proofs.Chain.{counts-stop, signals-asked, signals-stop, links-asked, links-stop, movements-asked, movements-stop, movements-cut, shares-ready, shares-stop, timeline-asked, network-judged}
-use Rattle.network.proofs.read_network.Goals as goal
+use Rattle.network.proofs.read_tables.Goals as goal
 
 pub returns-in_err-reading : goal.returns-in_err-reading
 returns-in_err-reading c = rw (passed_on _ _ c.from_residual.ensures.1) (counts-stop c.requires c.read_counts.ensures c.in_err-reading.was)
