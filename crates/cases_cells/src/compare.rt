@@ -6,14 +6,15 @@ ghost use Rattle.cases_cells.specs.Compare.{as_stored};
 
 use crate::told;
 use crate::told::Told;
+use base_search::Reason;
 use cases_files::agreement::agrees;
 use cases_files::reading::{Malformed, read_each, read_text, read_u32};
 use cases_files::tally;
 use cells_steps::MAX_CELLS;
 use std::io::Read;
 
-// The refusal numbers that cases are counted by.
-const NUMBERS: [u32; 2] = [36, 37];
+// Room for the longest text of the stored cases.
+const ROOM: usize = 8192;
 
 // Runs a corridor by the library: whether the answer and every volume are those that were stored. Where they are not, the answers are printed.
 fn judge(
@@ -33,11 +34,12 @@ fn judge(
 
 // Reads one case and judges it: the place at which it is counted.
 pub fn run_case(rt: &impl Print, file: &mut impl Read, number: u32) -> Result<usize, Malformed> {
-    let mut text = [0; 8192];
+    let mut text = [0; ROOM];
     let mut volumes = [0; MAX_CELLS];
     let corridor = read_text(file, &mut text)?;
     let stored = told::read_told(file)?;
     read_each(file, &mut volumes, read_u32)?;
     let same = judge(rt, number, corridor, stored, &volumes);
-    Ok(tally::place_of(&NUMBERS, stored.0.err(), same))
+    let numbers = [Reason::CorridorLine.number(), Reason::CellStart.number()];
+    Ok(tally::place_of(&numbers, stored.0.err(), same))
 }
