@@ -4,7 +4,7 @@ ghost use Rattle.traces.specs.Call.{step_vehicles, places_after};
 ghost use Rattle.cases_traces.specs.Compare.{as_stored};
 
 use crate::values;
-use base_search::Refusal;
+use base_search::{Reason, Refusal};
 use cases_files::agreement::agrees;
 use cases_files::reading::{Malformed, read_u32};
 use cases_files::refusals::Columns;
@@ -13,9 +13,6 @@ use std::io::Read;
 
 // Room for some vehicles and lines too many.
 const ROOM: usize = 80;
-
-// The refusal numbers that cases are counted by.
-const NUMBERS: [u32; 2] = [38, 39];
 
 // What a case gives: the step that is asked, and the answer and the places that are stored.
 #[derive(Drop)]
@@ -71,5 +68,9 @@ pub fn run_case(rt: &impl Print, file: &mut impl Read, number: u32) -> Result<us
         told,
     };
     let same = judge(rt, number, case);
-    Ok(tally::place_of(&NUMBERS, stored, same))
+    let numbers = [
+        Reason::VehicleValue.number(),
+        Reason::VehicleCounts.number(),
+    ];
+    Ok(tally::place_of(&numbers, stored, same))
 }

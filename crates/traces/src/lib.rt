@@ -105,7 +105,7 @@ fn valid_place(x: f64) -> bool
     (-MILLION..=MILLION).contains(&x)
 }
 
-// Whether an advance or a spacing is that, and not negative.
+// Whether an advance or a spacing is that, and not negative. Not the range from 0.0, which is no plainer: this reads as the definition.
 #[tactic(auto, unfolding(crate::specs::Call::valid_distance))]
 fn valid_distance(x: f64) -> bool
     ensures { result ≡ valid_distance x }
