@@ -6,14 +6,14 @@ ghost use Rattle.std.specs.Option.{option_copied};
 ghost use Rattle.text_writer.specs.Writing.{Wrote};
 ghost use Rattle.plancheck_files.specs.Output.{output};
 
-use plancheck_report::InputFile;
+use plancheck_report::{InputFile, OUTPUT_SIZE};
 use std::rt::Files;
 
 // Writes what is to be printed of two texts, of which each was read or not.
 fn write_output(network: Option<&[u8]>, plan: Option<&[u8]>, out: &mut [u8]) -> usize
     requires network_length { IfSome network (λ text. length text.now ≤ 16_384) }
     requires plan_length { IfSome plan (λ text. length text.now ≤ 24_576) }
-    requires in_bounds { 131_072 ≤ length out.old }
+    requires in_bounds { OUTPUT_SIZE ≤ length out.old }
     ensures { Wrote (output (option_copied network.entry) (option_copied plan.entry)) 0 out.old out.new result }
 {
     match (network, plan) {
@@ -29,7 +29,7 @@ fn write_output(network: Option<&[u8]>, plan: Option<&[u8]>, out: &mut [u8]) -> 
 pub fn run(rt: &(impl Files + Print), network_path: &str, plan_path: &str) {
     let mut network = [0; 16_385];
     let mut plan = [0; 24_577];
-    let mut out = [0; 131_072];
+    let mut out = [0; OUTPUT_SIZE];
     let network_text = plancheck_io::read_file(rt, network_path, &mut network).map(
         |n| &network[..n],
     );

@@ -7,7 +7,7 @@ use Rattle.model.specs.declared.Totals.{Totals}
 use Rattle.network_tables.specs.declared.Counts.{Counts}
 use Rattle.network_tables.specs.Places.{Few}
 use Rattle.plancheck_report.specs.Boundaries.{ledger_numbers, plan_time, boundary_texts, RowsAsked}
-use Rattle.plancheck_report.specs.Answer.{totals_text, refusal_text, answer_text}
+use Rattle.plancheck_report.specs.Answer.{totals_size, totals_text, refusal_text, answer_text}
 use Rattle.plancheck_report.proofs.Boundaries.{boundary-length}
 use Rattle.std.specs.Prelude.{Result, Ok, Err}
 
@@ -15,9 +15,8 @@ texts-length : (counts : Counts) (times ledger : List ℕ) → Few counts → le
 texts-length counts times ledger few =
     omega (arith, few.steps, records-most 66 (ledger_numbers counts.links (plan_time counts times) ledger) 1052 (suc counts.steps) (λ n. boundary-length counts.links (plan_time counts times) ledger n few.links))
 
-module _ {counts : Counts} {times ledger old : List ℕ} (asked : RowsAsked old 86 counts times ledger) (t : Totals) where
-  -- an `A` record has at most 86 bytes
-  totals-length : length (totals_text t) ≤ 86
+module _ {counts : Counts} {times ledger old : List ℕ} (asked : RowsAsked old totals_size counts times ledger) (t : Totals) where
+  totals-length : length (totals_text t) ≤ totals_size
   totals-length = omega (arith, record-most 65 (t.admitted ∷ t.let_out ∷ t.inside ∷ t.doubled_time ∷ []))
 
   module _ {mid : List ℕ} {next : ℕ} (a : Wrote (totals_text t) 0 old mid next) where

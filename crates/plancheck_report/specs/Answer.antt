@@ -8,6 +8,10 @@ use Rattle.plancheck_report.specs.declared.InputFile.{InputFile}
 use Rattle.plancheck_report.specs.declared.InputFile.TheVariants.{Network, Plan}
 use Rattle.plancheck_report.specs.Boundaries.{boundary_texts}
 
+-- an `A` record has at most 86 bytes: the letter, the line feed, and four numbers of at most 20 digits, a tab before each
+abbrev pub totals_size : ℕ
+totals_size = 86
+
 -- the `A` record
 abbrev pub totals_text : Totals → List ℕ
 totals_text t = record_text 65 (t.admitted ∷ t.let_out ∷ t.inside ∷ t.doubled_time ∷ [])

@@ -9,7 +9,7 @@ ghost use Rattle.model.specs.Report.{report, not_read};
 ghost use Rattle.network_tables.specs.Fields.{row_size};
 ghost use Rattle.network.specs.Loading.{TablesLoaded};
 ghost use Rattle.plancheck_report.specs.Boundaries.{plan_time, TimeAsked, boundary_texts, RowsAsked};
-ghost use Rattle.plancheck_report.specs.Answer.{totals_text, refusal_text, answer_text, file_number};
+ghost use Rattle.plancheck_report.specs.Answer.{totals_size, totals_text, refusal_text, answer_text, file_number};
 
 use base_search::Refusal;
 use model::{Signal, Totals};
@@ -21,6 +21,9 @@ use network_tables::{
 // The ledger of the largest network: a row for each boundary.
 const LEDGER_SIZE: usize = TIME_TABLE_SIZE * ROW_SIZE;
 
+// Room for every output.
+pub const OUTPUT_SIZE: usize = 131_072;
+
 // The program's two files.
 #[derive(Clone, Copy)]
 pub enum InputFile {
@@ -29,7 +32,7 @@ pub enum InputFile {
 }
 
 impl InputFile {
-    // Its number in `L` records.
+    // Its number in `L` records. Not by discriminants: a wrong program that gives both files one number would not compile.
     pub fn number(self) -> u64
         ensures { result ≡ file_number self }
     {
@@ -50,6 +53,7 @@ fn time_of(tables: &NetworkTables, n: usize) -> u32
 }
 
 // Writes the `B` record of a boundary: its number, its time, and its row of the ledger.
+// Buffer and place go apart, as into each call of text_writer: a struct of the two would be taken apart again here.
 fn write_boundary(out: &mut [u8], at: usize, n: usize, time: u32, row: &[u32]) -> usize
     requires { (length row.now ≤ row_size) × (at + 1052 ≤ length out.old) }
     ensures { Wrote (record_text 66 (n ∷ time ∷ row.now)) at out.old out.new result }
@@ -62,7 +66,7 @@ fn write_boundary(out: &mut [u8], at: usize, n: usize, time: u32, row: &[u32]) -
     text_writer::write_record(out, at, b'B', &fields[..end])
 }
 
-// Writes the `B` records of boundaries 0 to K of a plan on a network that has passed.
+// Writes the `B` records of boundaries 0 to K of a plan on a network that has passed. By index: a boundary's row and its time stand in two tables.
 fn write_rows(out: &mut [u8], at: usize, tables: &NetworkTables, ledger: &[u32]) -> usize
     requires { RowsAsked out.old at tables.now.reading.counts tables.now.times.now ledger.now }
     ensures { Wrote (boundary_texts tables.now.reading.counts tables.now.times.now ledger.now) at out.old out.new result }
@@ -78,7 +82,7 @@ fn write_rows(out: &mut [u8], at: usize, tables: &NetworkTables, ledger: &[u32])
 
 // Writes `A` with the four totals, and the `B` records behind it.
 fn write_accepted(out: &mut [u8], tables: &NetworkTables, ledger: &[u32], totals: Totals) -> usize
-    requires { RowsAsked out.old 86 tables.now.reading.counts tables.now.times.now ledger.now }
+    requires { RowsAsked out.old totals_size tables.now.reading.counts tables.now.times.now ledger.now }
     ensures { Wrote (totals_text totals ++ boundary_texts tables.now.reading.counts tables.now.times.now ledger.now) 0 out.old out.new result }
 {
     let fields = [
@@ -93,7 +97,7 @@ fn write_accepted(out: &mut [u8], tables: &NetworkTables, ledger: &[u32], totals
 
 // Writes `R`, number, line, item.
 fn write_refusal(out: &mut [u8], refusal: Refusal) -> usize
-    requires { 86 ≤ length out.old }
+    requires { totals_size ≤ length out.old }
     ensures { Wrote (refusal_text refusal) 0 out.old out.new result }
 {
     let fields = [
@@ -111,7 +115,7 @@ fn write_answer(
     answer: Result<Totals, Refusal>,
     ledger: &[u32],
 ) -> usize
-    requires { RowsAsked out.old 86 tables.now.reading.counts tables.now.times.now ledger.now }
+    requires { RowsAsked out.old totals_size tables.now.reading.counts tables.now.times.now ledger.now }
     ensures { Wrote (answer_text tables.now.reading.counts tables.now.times.now answer ledger.now) 0 out.old out.new result }
 {
     match answer {
@@ -128,7 +132,7 @@ fn write_judged(
     out: &mut [u8],
 ) -> usize
     requires loaded { TablesLoaded tables.now signals.old }
-    requires in_bounds { 131072 ≤ length out.old }
+    requires in_bounds { OUTPUT_SIZE ≤ length out.old }
     ensures { Wrote (report tables.now.text.now plan.now) 0 out.old out.new result }
 {
     let mut ledger = [0u32; LEDGER_SIZE];
@@ -138,7 +142,7 @@ fn write_judged(
 
 // Writes the report of two texts that were read.
 pub fn write_report(network: &[u8], plan: &[u8], out: &mut [u8]) -> usize
-    requires { 131072 ≤ length out.old }
+    requires { OUTPUT_SIZE ≤ length out.old }
     ensures wrote { Wrote (report network.now plan.now) 0 out.old out.new result }
     ensures padding_ignored { PaddingIgnored network.now (λ padded_network. PaddingIgnored plan.now (λ padded_plan. Wrote (report padded_network padded_plan) 0 out.old out.new result)) }
 {
