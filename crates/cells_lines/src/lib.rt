@@ -16,7 +16,8 @@ const MAX_VOLUME: u32 = 2_000_000_000;
 
 const MAX_WAVE_RATIO: u32 = 1000;
 
-// What of a corridor was read into the tables: how many cells and how many demands; and the exit limit.
+// What of a corridor was read into the tables: how many cells and how many demands; and the exit limit. Counts, not slices of the tables:
+// the call goes on to change the volumes, and answers with their whole table.
 #[derive(Clone, Copy)]
 pub struct Corridor {
     pub cells: usize,
