@@ -181,7 +181,8 @@ pub fn read_line(
     requires { LineAsked signals.now counts line.old }
     ensures { LineGot plan.now at signals.now counts line.old result line.new }
 {
-    // Not `is_empty`: a wrong program, which takes a text of one byte for an empty one, is made of this test.
+    // Not `is_empty`: a wrong program, which takes a text of one byte for an empty one, is made of this test, and an edit keeps the name of its goal
+    // (docs/DECISIONS.md).
     if plan.len() == 0 {
         step_signals::hold_masks(&signals[..counts.signals], line);
         return Some(at);

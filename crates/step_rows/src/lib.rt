@@ -55,7 +55,7 @@ fn add_at(row: &mut [u32], at: usize, volume: u32)
     }
 }
 
-// Adds each movement of the line to what has entered its to link and to what has left its from link.
+// Adds each movement of the line to what has entered its to link and to what has left its from link. By index: it goes over the line and the movements together.
 fn add_movements(row: &mut [u32], line: &[u32], movements: &[Movement], counts: Counts)
     requires { Room counts line.now movements.now row.old }
     ensures { Added counts line.now movements.now row.old counts.movements row.new }
@@ -69,7 +69,7 @@ fn add_movements(row: &mut [u32], line: &[u32], movements: &[Movement], counts: 
     }
 }
 
-// The row before the step with what the line admits and lets out.
+// The row before the step with what the line admits and lets out. By index: it goes over both rows and the line together.
 fn base_row(previous: &[u32], line: &[u32], counts: Counts, row: &mut [u32])
     requires { Base counts line.now previous.now row.old }
     ensures { row.new ≡ pairs (base_entered counts line.now previous.now) (base_left counts line.now previous.now) counts.links ++ drop (2 * counts.links) row.old }

@@ -25,7 +25,7 @@ pub enum SignalRule {
 
 // The phase, among 1 to `phases`, whose bit is all of the mask; 0 where there is none, which breaks rule 10 (C7). The count of ones tests that one
 // bit is set; the trailing zeros are its place. A number and not an option: tables of options, for what is shown and what trams ask, cost the largest plan 2.2 % more,
-// 1.49 x the twin.
+// 1.49 x the twin (the C check of bench/twin.c), past the bar of 1.45 x.
 pub fn phase_of(mask: u32, phases: u32) -> u32
     ensures { result ≡ phase_of mask phases }
 {
@@ -206,7 +206,8 @@ impl SignalRule {
 }
 
 // Whether a signal that shows a phase keeps all six rules. Rules 12 and 13 are said anew, with the two times read through the reference: by their own tests, which take the
-// signal by value, the corridor's plan cost 0.7 % more and the largest 0.4 %. Not inlined, for check_plan's speed (docs/MEASUREMENTS.md).
+// signal by value, the corridor's plan cost 0.7 % more and the largest 0.4 %, against the bars of 6,800 on the corridor and 1.45 x the twin on the largest. Not inlined, for check_plan's speed
+// (docs/MEASUREMENTS.md). Phase, asked and seconds go beside the signal here and below: a struct of them would be made anew for each signal.
 #[inline(never)]
 fn keeps_all(signal: &Signal, phase: u32, asked: u32, seconds: u32) -> bool
     requires ready { Ready signal.now }
@@ -224,7 +225,7 @@ fn keeps_all(signal: &Signal, phase: u32, asked: u32, seconds: u32) -> bool
 }
 
 // Whether a signal goes on with its phase in an ordinary step, and neither the phase nor the cycle lasts too long. Then it keeps all six, as most do in most steps: without
-// this test the largest plan cost 1.2 % more, and with rule 13 by its own test 0.4 %.
+// this test the largest plan cost 1.2 % more, and with rule 13 by its own test 0.4 %, against the bar of 1.45 x the twin.
 fn goes_on(signal: &Signal, phase: u32, asked: u32, seconds: u32) -> bool
     requires ready { Ready signal.now }
     requires phase_bound { phase ≤ 8 }

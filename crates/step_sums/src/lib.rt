@@ -116,7 +116,7 @@ impl StepRows<'_> {
         u64::from(entered(self.row, i)) <= capacity + u64::from(left(self.previous, i))
     }
 
-    // Whether all movements keep 16, in one pass over them.
+    // Whether all movements keep 16, in one pass over them. By index here and below, since a rule is asked of an item by its index.
     fn keeps_shares(&self) -> bool
         ensures { result ≡ true → SharesKept self.now.step.now self.now.step.now.counts.movements }
     {
