@@ -29,7 +29,7 @@ pub enum Order {
 }
 
 impl Order {
-    // The number by which answers tell it.
+    // The number by which answers tell it. By a match: as discriminants, a wrong program that gives two variants one number would not compile.
     pub fn number(self) -> u32
         ensures { result ≡ order_number self }
     {

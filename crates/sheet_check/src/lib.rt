@@ -109,7 +109,7 @@ fn is_earlier(x: u32, y: u32) -> bool
     (x != 0) & ((y == 0) | (x < y))
 }
 
-// Refusal 34: the least of the lines that were found, then the lowest signal.
+// Refusal 34: the least of the lines that were found, then the lowest signal. Line and item are 0 for none, as a watch's lines are, and for the same reason.
 fn check_runs(watches: &[Watch]) -> Result<(), Refusal>
     requires { length watches.now < 4294967296 }
     ensures { result ≡ pass_verdict (λ i. (watch_in watches.now i).broken) (length watches.now) }
