@@ -1,4 +1,5 @@
 // The C library: the calls over slices, each a pointer and a length, with answers by value. include/plancheck.h declares them.
+// Each answer is a flat struct that begins with the same three numbers, as C has it, so that each conversion copies those of a refusal by itself.
 #![tactic(auto)]
 
 ghost use Rattle.std.specs.Prelude.{◌≡◌, length};
