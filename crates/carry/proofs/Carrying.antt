@@ -1,5 +1,5 @@
 -- The ways out of the call, by the definitions on the cut network.
-use Rattle.base_laws.proofs.Kit.{ℕ, suc, ◌+◌, ◌*◌, ◌-◌, ◌≤◌, ◌<◌, ◌≡◌, refl, sym, ap, ◌∙◌, true, false, List, [], dec_lt, add-one, arith, le-leb, lt-leb, eq-eqb, leb, eqb, length, get_or, get_or-take, ◌⊎◌, inl, inr}
+use Rattle.base_laws.proofs.Kit.{Bool, ℕ, suc, ◌+◌, ◌*◌, ◌-◌, ◌≤◌, ◌<◌, ◌≡◌, refl, sym, ap, ◌∙◌, true, false, List, [], dec_lt, add-one, arith, le-leb, lt-leb, eq-eqb, leb, eqb, length, get_or, get_or-take, ◌⊎◌, inl, inr}
 use Rattle.base_search.specs.declared.Refusal.{Refusal}
 use Rattle.base_search.specs.Checks.{refusal, verdict, or_else, checked, each, Hold}
 use Rattle.base_search.proofs.Laws.{passes-of-hold, hold-of-passes, or-else-passes, or-else-refused, checked-passes, checked_refused, first-stop, first_passes}
@@ -172,10 +172,10 @@ module _ (plan_text : List ℕ) (b : ℕ) (buffer : List ℕ) {tables : NetworkT
             ∙ sym (eq-eqb _ _ (ap length (empty-first (omega arith)) ∙ held-count))
       ]
 
-      pub more-lines : at_end plan_text state.place.plan_at ≡ false → CarryGot network_text plan_text b ledger ledger' buffer buffer (Err (refusal 9 (b + 1) 0))
-      more-lines e =
-          let v = lines-judged ∙ checked_refused _ 9 (suc b) 0 (sym plan-ended ∙ e) in
-          rw (add-one b) (plan-refused network_text plan_text b ledger buffer within-plan v rows_all)
+      pub more-lines : {ended : Bool} {r : Refusal} → ended ≡ at_end plan_text state.place.plan_at → checked ended 9 (b + 1) 0 ≡ Err r → CarryGot network_text plan_text b ledger ledger' buffer buffer (Err r)
+      more-lines {ended} {r} d e =
+          let v : checked ended 9 (suc b) 0 ≡ Err r = rw (add-one b) at e in
+          plan-refused network_text plan_text b ledger buffer within-plan (lines-judged ∙ ap (λ x. checked x 9 (suc b) 0) (sym (d ∙ plan-ended)) ∙ v) rows_all
 
       agree : (n k : ℕ) → n < b → entry whole n k ≡ entry first n k
       unfolding entry

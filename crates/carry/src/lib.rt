@@ -23,7 +23,7 @@ ghost use Rattle.carry.specs.Rows.{count_row, volumes_in, Copied, SignalsAsked, 
 ghost use Rattle.carry.specs.Carried.{CarryAsked, TextPut, TextWritten};
 ghost use Rattle.carry.specs.Trams.{left_of};
 
-use base_search::{Reason, Refusal};
+use base_search::{Reason, Refusal, checked};
 use model::{SIGNAL_FIELDS, Signal};
 use network_tables::{
     COUNT_FIELDS, Counts, Link, MAX_LINKS, MAX_MOVEMENTS, MAX_SIGNALS, MAX_TRAMS, Movement,
@@ -64,7 +64,7 @@ impl PassedLines {
     }
 }
 
-// The numbers of the `N` line. No count is too large for a field, so that no cast loses anything.
+// The numbers of the `N` line. Not a `From`, which may ask nothing, where the casts ask for the counts. No count is too large for a field, so that no cast loses anything.
 #[tactic(auto, unfolding(crate::specs::Rows::count_row))]
 fn count_row(counts: Counts, boundary: usize, trams: usize) -> [u32; COUNT_FIELDS]
     requires { Few counts × (boundary ≤ counts.steps) × (trams ≤ max_trams) }
@@ -94,7 +94,8 @@ fn rest_of(tram: Tram, boundary: u32) -> Option<Tram>
     })
 }
 
-// Puts the `G` lines of signals: each has numbers as far as its phases go.
+// Puts the `G` lines of signals: each has numbers as far as its phases go. The two lines of its turn stand in split_text too: a method of `Output` would say
+// the signal's phases and numbers in a contract longer than they are.
 fn put_signals(signals: &[Signal], output: &mut Output)
     requires { SignalsAsked signals.now output.old }
     ensures { Put (length signals.now) (record_texts letter_g (length signals.now) (λ k. signal_numbers (signal_at signals.now k))) output.old output.new }
@@ -105,7 +106,8 @@ fn put_signals(signals: &[Signal], output: &mut Output)
     }
 }
 
-// What entered each link in step n, and left it, by the rows of the ledger before and after the step, goes behind the step's length.
+// What entered each link in step n, and left it, by the rows of the ledger before and after the step, goes behind the step's length. By index:
+// it asks the ledger, at two rows, and the row at two places, by one.
 fn fill_volumes(ledger: &[u32], links: usize, n: usize, row: &mut [u32])
     requires { VolumesAsked ledger.now links n row.old }
     ensures { row.new ≡ over (get_or row.old 0 0 ∷ joined links (volumes_in ledger.now links n)) row.old }
@@ -205,9 +207,8 @@ fn carry_steps(
 {
     let mut waiting = [0u32; MAX_LINKS];
     let state = plan_steps::take_steps(plan, tables, boundary, signals, &mut waiting, ledger)?;
-    if !text_reader::is_end(plan, state.place.plan_at) {
-        return Err(Reason::PlanForm.refusal(boundary + 1, 0));
-    }
+    let ended = text_reader::is_end(plan, state.place.plan_at);
+    checked(ended, Reason::PlanForm, boundary + 1, 0)?;
     let standing = Standing {
         boundary,
         signals,
@@ -230,7 +231,7 @@ fn carry_from(
     ensures { CarryGot tables.now.text.now plan.now boundary ledger.old ledger.new carried.old carried.new result }
 {
     let counts = tables.reading.counts;
-    if boundary < 1 || counts.steps <= boundary {
+    if !(1..counts.steps).contains(&boundary) {
         return Err(Reason::CarryBoundary.refusal(0, 0));
     }
     if ledger.len() < row_start(boundary + 1, counts.links) {

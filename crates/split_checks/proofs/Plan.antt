@@ -1,8 +1,8 @@
 -- The form of a plan's lines: a line read is that of the plan which its text means, and the turns of the loop over all lines.
-use Rattle.base_laws.proofs.Kit.{ℕ, suc, ◌+◌, ◌-◌, ◌≤◌, ◌<◌, ◌≡◌, sym, ap, ◌∙◌, Bool, true, false, not, List, dec_le, add-one, arith, not-true, not-false, eqb, length, replicate, length-replicate, List·getD-eq-default}
+use Rattle.base_laws.proofs.Kit.{ℕ, suc, ◌+◌, ◌-◌, ◌≤◌, ◌<◌, ◌≡◌, sym, ap, ◌∙◌, Bool, true, List, dec_le, add-one, arith, eqb, length, replicate, length-replicate, List·getD-eq-default}
 use borrow.Author.Count.{below_more}
 use Rattle.base_search.specs.declared.Refusal.{Refusal}
-use Rattle.base_search.specs.Checks.{refusal, checked, verdict}
+use Rattle.base_search.specs.Checks.{refusal, checked, verdict, Verdict}
 use Rattle.base_search.proofs.Laws.{or-else-passes, or-else-refused, first-stop, first_passes, checked-passes, checked_refused}
 use Rattle.text_reader.specs.Lines.{no_line, lines, is_record}
 use Rattle.text_reader.specs.Reading.{at_end}
@@ -20,7 +20,7 @@ use Rattle.split_tables.proofs.Items.{zeros-at}
 use Rattle.model_split.specs.Call.{form_checks}
 use Rattle.split_checks.specs.Plan.{OnNetwork, is_formed, LineForm, FormsTo, FormTold}
 use Rattle.base_laws.proofs.Tests.{not-both}
-use Rattle.std.specs.Prelude.{Option, Some, None, Ok, Err}
+use Rattle.std.specs.Prelude.{Option, Some, None, Err}
 
 -- ---- `line_form`
 pub line-told : {plan_text : List ℕ} {at : ℕ} {signals : List Signal} {counts : Counts} {line : List ℕ} {result : (Option ℕ)} → LineGot plan_text at signals counts (replicate line_size 0) result line
@@ -87,9 +87,5 @@ module _ {plan_text : List ℕ} {signals : List Signal} {counts : Counts} {at n 
           or-else-passes _ _ (first_passes _ (step_count (lines network_text)) (λ m k. checked-passes _ 9 (suc m) 0 (inv.formed network_text on m (omega (arith, all)))))
           ∙ ap (λ x. checked x 9 (suc (step_count (lines network_text))) 0) ends
 
-    pub forms-more : not b ≡ true → {r : Refusal} → r ≡ refusal 9 (counts.steps + 1) 0 → FormTold plan_text signals counts (Err r)
-    forms-more f t network_text on =
-        rw (t, add-one, on.counted.steps) (sym (judged network_text on ∙ checked_refused b 9 (suc (step_count (lines network_text))) 0 (not-true b f)))
-
-    pub forms-all : not b ≡ false → FormTold plan_text signals counts (Ok tt)
-    forms-all f network_text on = sym (judged network_text on ∙ checked-passes b 9 (suc (step_count (lines network_text))) 0 (not-false b f))
+    pub forms-all : {told : Verdict} → told ≡ checked b 9 (counts.steps + 1) 0 → FormTold plan_text signals counts told
+    forms-all t network_text on = rw (t, add-one, on.counted.steps) (sym (judged network_text on))

@@ -13,7 +13,7 @@ ghost use Rattle.split_checks.specs.Tables.{none_wait_in, stands_apart_in, right
 ghost use Rattle.split_checks.specs.Network.{StepsAsked, step_free, SplitAsked, SplitTold, PartsTold};
 ghost use Rattle.split_checks.specs.Plan.{FormAsked, LineForm, FormTold};
 
-use base_search::{Reason, Refusal};
+use base_search::{Reason, Refusal, checked};
 use model::Signal;
 use network_tables::{Counts, LINE_SIZE, Link, NetworkTables, STEP_SIZE};
 use split_tables::{HalfTables, Halves, Whole};
@@ -26,7 +26,7 @@ fn nobody_waits(links: &[Link]) -> bool
 }
 
 // What the border is judged by: a network's tables, whose movements name links, and those of its first half. A movement is asked for by its index, below the
-// count of movements: the tests compare movements by index.
+// count of movements: two tests compare movements by index, and that a movement names links is a fact of its index.
 #[derive(Clone, Copy)]
 struct Border<'a> {
     tables: &'a NetworkTables<'a>,
@@ -188,8 +188,6 @@ pub fn plan_form(plan: &[u8], signals: &[Signal], counts: Counts) -> Result<(), 
         };
         at = next;
     }
-    if !text_reader::is_end(plan, at) {
-        return Err(Reason::PlanForm.refusal(counts.steps + 1, 0));
-    }
-    Ok(())
+    let ended = text_reader::is_end(plan, at);
+    checked(ended, Reason::PlanForm, counts.steps + 1, 0)
 }

@@ -83,7 +83,7 @@ pub fn count_in(numbers: &[u32]) -> usize
     numbers.iter().filter(|number| **number != 0).count()
 }
 
-// Numbers those of so many items that are in a half from 1, in their old order.
+// Numbers those of so many items that are in a half from 1, in their old order. By index: the test is asked by one, and the table has room for more.
 fn numbers_where<const N: usize, F: Fn(usize) -> bool>(count: usize, is_in: F) -> [u32; N]
     requires few { (count ≤ N) × (count ≤ max_movements) }
     requires asks { Asks (F.pre is_in) count }
@@ -138,7 +138,7 @@ fn outside_has(set: u32, links: &[Link], r: usize) -> bool
 }
 
 // Numbers both halves of a network by the set of links in the first. A signal with a link in the second half goes there.
-// Not inlined: its own tables leave the stack before the texts are written.
+// Not inlined, and filled where it is lent: `split` takes 7,768 bytes of stack so, of its 8 KiB. It took 9,320 when the halves were returned, with tables of marks.
 #[inline(never)]
 pub fn number_halves(set: u32, tables: &NetworkTables, halves: &mut Halves)
     requires { HalvesAsked tables.now }

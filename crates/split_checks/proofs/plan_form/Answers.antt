@@ -1,5 +1,5 @@
-use Rattle.std.proofs.Common.{rules}
-use Rattle.split_checks.proofs.Plan.{forms-none, forms-stop, forms-next, forms-more, forms-all}
+use Rattle.std.proofs.Common.{arith, rules}
+use Rattle.split_checks.proofs.Plan.{forms-none, forms-stop, forms-next, forms-all}
 use Rattle.split_checks.proofs.plan_form.Goals as goal
 
 pub loop-n-init : goal.loop-n-init
@@ -11,8 +11,5 @@ returns-in_default c = search (forms-stop, rules)
 pub loop-n-preserved : goal.loop-n-preserved
 loop-n-preserved c = search (forms-next, rules)
 
-pub returns-then-not-is_end : goal.returns-then-not-is_end
-returns-then-not-is_end c = search (forms-more, rules)
-
 pub returns : goal.returns
-returns c = search (forms-all, rules)
+returns c = forms-all c.loop-n.invariant (omega arith) c.is_end-ended.ensures c.checked.ensures
