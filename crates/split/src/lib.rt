@@ -12,7 +12,7 @@ use model_split::Lengths;
 use network_tables::{Link, MAX_LINKS, MAX_MOVEMENTS, MAX_SIGNALS, Movement, TIME_TABLE_SIZE};
 use split_tables::{Halves, Whole};
 
-// The buffers of the four texts, lent together.
+// The buffers of the four texts, lent together. Beside `Lengths`, which is plain numbers: a struct for both would have a type parameter for four names.
 #[derive(Drop)]
 struct FourBuffers<'a> {
     network_1: &'a mut [u8],
@@ -76,7 +76,7 @@ fn write_halves(
 }
 
 // The checks on a network that has passed, with the tables of its halves: 40, 41, and the form of the plan's lines. Both tests are made before one of them is
-// refused: a wrong program, which reports 41 before 40, exchanges the two.
+// refused: a wrong program reports 41 before 40 by exchanging the two, and an edit keeps the names of goals (docs/DECISIONS.md).
 fn judge_halves(whole: &Whole, halves: &Halves) -> Result<(), Refusal>
     requires { Passed whole.now }
     ensures { HalvesJudged whole.now halves.now result }

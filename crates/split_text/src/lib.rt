@@ -39,7 +39,7 @@ fn signal_number(half: &HalfTables, signal: u32) -> u32
     half.signals[signal as usize - 1]
 }
 
-// Puts the `N` line. A count is far below 2 ^ 32: no cast loses anything.
+// Puts the `N` line. Not a `From`, which may ask nothing, where the casts ask for the counts. A count is far below 2 ^ 32: no cast loses anything.
 fn put_counts(counts: Counts, trams: usize, half: &HalfTables, output: &mut Output)
     requires { CountsAsked counts trams × Early 1 output.old }
     ensures { Put 1 (record_text letter_n (count_row counts trams half.now)) output.old output.new }
@@ -78,7 +78,8 @@ fn put_trams(trams: &[Tram], half: &HalfTables, output: &mut Output)
     output.put_rows(b'T', trams, |_, tram| tram_kept(tram, half));
 }
 
-// Puts the `G` lines of the half's signals as they are. By index, as their numbers in the half are.
+// Puts the `G` lines of the half's signals as they are. By index, as their numbers in the half are. The two lines of a turn stand in carry too: a method of
+// `Output` would say the signal's phases and numbers in a contract longer than they are.
 fn put_signals(whole: &Whole, half: &HalfTables, output: &mut Output)
     requires { SignalsAsked whole.now output.old }
     ensures { Put whole.now.tables.reading.counts.signals (line_texts letter_g (picked whole.now.tables.reading.counts.signals (is_in half.now.signals) (signal_row (whole_network whole.now)))) output.old output.new }
@@ -169,7 +170,8 @@ fn add_at(border: bool, link: usize, number: u32, sums: &mut [u64])
     }
 }
 
-// Which of a movement's two links: the one that it leaves, or the one that it enters.
+// Which of a movement's two links: the one that it leaves, or the one that it enters. A name, not a closure: `add_border` would ask of one that it gives a link
+// that is there, and promise its sums by it, as it does by `number_of`.
 #[derive(Clone, Copy)]
 enum Side {
     From,
@@ -208,7 +210,7 @@ fn add_border<F: Fn(usize) -> u32>(
     sums
 }
 
-// Lent numbers of a line, and the place where the next is put.
+// Lent numbers of a line, and the place where the next is put. Not an `Output`, which is of bytes, and whose place may lie behind its end.
 #[derive(Drop)]
 struct Row<'a> {
     numbers: &'a mut [u32],
