@@ -25,10 +25,8 @@ ghost use Rattle.carry.specs.Trams.{left_of};
 
 use base_search::{Reason, Refusal, checked};
 use model::{SIGNAL_FIELDS, Signal};
-use network_tables::{
-    COUNT_FIELDS, Counts, Link, MAX_LINKS, MAX_MOVEMENTS, MAX_SIGNALS, MAX_TRAMS, Movement,
-    NetworkTables, PAST_SIZE, TIME_TABLE_SIZE, Tram, entered_at, left_at, read_again, row_start,
-};
+use network::Room;
+use network_tables::{COUNT_FIELDS, Counts, Link, MAX_LINKS, MAX_SIGNALS, MAX_TRAMS, NetworkTables, PAST_SIZE, Tram, entered_at, left_at, read_again, row_start};
 use network_writer::{Output, count_rows};
 
 // How a network stands at a boundary of a plan: its signals, the vehicles that wait, and the ledger's rows up to there. All are lent.
@@ -253,16 +251,8 @@ pub fn carry_on(
     ensures padding_ignored { PaddingIgnored network.now (λ padded_network. PaddingIgnored plan.now (λ padded_plan. CarryGot padded_network padded_plan boundary ledger.old ledger.new carried.old carried.new result)) }
 {
     let mut signals = [Signal::default(); MAX_SIGNALS];
-    let mut links = [Link::default(); MAX_LINKS];
-    let mut movements = [Movement::default(); MAX_MOVEMENTS];
-    let mut times = [0u32; TIME_TABLE_SIZE];
-    let tables = network::read_network(
-        network,
-        &mut signals,
-        &mut links,
-        &mut movements,
-        &mut times,
-    )?;
+    let mut room = Room::default();
+    let tables = network::read_network(network, &mut signals, &mut room)?;
     // Every `u32` fits a `usize`: the cast loses nothing.
     carry_from(
         &tables,

@@ -12,10 +12,8 @@ ghost use Rattle.plan_check.specs.Plan.{PlanGot};
 
 use base_search::{Reason, Refusal};
 use model::{Signal, Totals};
-use network_tables::{
-    Link, MAX_LINKS, MAX_MOVEMENTS, MAX_SIGNALS, Movement, NetworkTables, TIME_TABLE_SIZE,
-    row_start,
-};
+use network::Room;
+use network_tables::{MAX_SIGNALS, NetworkTables, row_start};
 
 // Judges a plan on a network that has passed, from its signals on, which it steps on: the ledger's length, then the steps.
 // No struct of the four: two are read and two are written, and each caller has the four as they are. That the tables are loaded is no fact of their type, since it
@@ -45,15 +43,7 @@ pub fn check_plan(network: &[u8], plan: &[u8], ledger: &mut [u32]) -> Result<Tot
     ensures padding_ignored { PaddingIgnored network.now (λ padded_network. PaddingIgnored plan.now (λ padded_plan. PlanGot padded_network padded_plan ledger.old result ledger.new)) }
 {
     let mut signals = [Signal::default(); MAX_SIGNALS];
-    let mut links = [Link::default(); MAX_LINKS];
-    let mut movements = [Movement::default(); MAX_MOVEMENTS];
-    let mut times = [0u32; TIME_TABLE_SIZE];
-    let tables = network::read_network(
-        network,
-        &mut signals,
-        &mut links,
-        &mut movements,
-        &mut times,
-    )?;
+    let mut room = Room::default();
+    let tables = network::read_network(network, &mut signals, &mut room)?;
     judge_loaded(plan, &tables, &mut signals, ledger)
 }

@@ -14,10 +14,8 @@ ghost use Rattle.plan_compare.specs.Curves.{lines_order, Formed, NextAsked, Next
 
 use base_search::Refusal;
 use model::Signal;
-use network_tables::{
-    Counts, LINE_SIZE, Link, MAX_LINKS, MAX_MOVEMENTS, MAX_SIGNALS, Movement, NetworkTables,
-    TIME_TABLE_SIZE,
-};
+use network::Room;
+use network_tables::{Counts, LINE_SIZE, MAX_SIGNALS, NetworkTables};
 
 // How the first of two plans stands to the second, by all vehicles let out up to each boundary.
 #[derive(Clone, Copy)]
@@ -192,17 +190,10 @@ pub fn compare_plans(
     ensures padding_ignored { PaddingIgnored network.now (λ padded_network. PaddingIgnored first.now (λ padded_first. PaddingIgnored second.now (λ padded_second. ComparisonGot padded_network padded_first padded_second first_ledger.old second_ledger.old result first_ledger.new second_ledger.new))) }
 {
     let mut signals = [Signal::default(); MAX_SIGNALS];
-    let mut links = [Link::default(); MAX_LINKS];
-    let mut movements = [Movement::default(); MAX_MOVEMENTS];
-    let mut times = [0u32; TIME_TABLE_SIZE];
-    let tables = network::read_network(
-        network,
-        &mut signals,
-        &mut links,
-        &mut movements,
-        &mut times,
-    )
-    .map_err(ComparisonRefusal::Network)?;
+    let mut room = Room::default();
+    let tables = network::read_network(network, &mut signals, &mut room).map_err(
+        ComparisonRefusal::Network,
+    )?;
     compare_on_network(
         &tables,
         first,

@@ -13,10 +13,8 @@ ghost use Rattle.plancheck_report.specs.Answer.{totals_size, totals_text, refusa
 
 use base_search::Refusal;
 use model::{Signal, Totals};
-use network_tables::{
-    Link, MAX_LINKS, MAX_MOVEMENTS, MAX_SIGNALS, Movement, NetworkTables, ROW_SIZE,
-    TIME_TABLE_SIZE, row_start,
-};
+use network::Room;
+use network_tables::{MAX_SIGNALS, NetworkTables, ROW_SIZE, TIME_TABLE_SIZE, row_start};
 
 // The ledger of the largest network: a row for each boundary.
 const LEDGER_SIZE: usize = TIME_TABLE_SIZE * ROW_SIZE;
@@ -147,16 +145,8 @@ pub fn write_report(network: &[u8], plan: &[u8], out: &mut [u8]) -> usize
     ensures padding_ignored { PaddingIgnored network.now (λ padded_network. PaddingIgnored plan.now (λ padded_plan. Wrote (report padded_network padded_plan) 0 out.old out.new result)) }
 {
     let mut signals = [Signal::default(); MAX_SIGNALS];
-    let mut links = [Link::default(); MAX_LINKS];
-    let mut movements = [Movement::default(); MAX_MOVEMENTS];
-    let mut times = [0u32; TIME_TABLE_SIZE];
-    let read = network::read_network(
-        network,
-        &mut signals,
-        &mut links,
-        &mut movements,
-        &mut times,
-    );
+    let mut room = Room::default();
+    let read = network::read_network(network, &mut signals, &mut room);
     match read {
         Err(refusal) => write_refusal(out, refusal),
         Ok(tables) => write_judged(plan, &tables, &mut signals, out),

@@ -14,10 +14,8 @@ ghost use Rattle.sheet_check.specs.Stages.{PassAsked, StepAsked, StepGot, PassGo
 
 use base_search::{Reason, Refusal};
 use model::{Signal, Totals};
-use network_tables::{
-    Link, MAX_LINKS, MAX_MOVEMENTS, MAX_SIGNALS, MAX_TRAMS, Movement, NetworkTables,
-    TIME_TABLE_SIZE, Tram,
-};
+use network::Room;
+use network_tables::{MAX_SIGNALS, MAX_TRAMS, NetworkTables, Tram};
 use plan_steps::{Lines, Place, Run};
 use sheet_lines::{SHEET_FIELDS, SheetLine};
 
@@ -220,15 +218,7 @@ pub fn check_sheet(
     ensures padding_ignored { PaddingIgnored network.now (λ padded_network. PaddingIgnored plan.now (λ padded_plan. PaddingIgnored sheet.now (λ padded_sheet. SheetPromises (lines padded_network) (lines padded_sheet) (plan_of padded_network padded_plan) ledger.old ledger.new result))) }
 {
     let mut signals = [Signal::default(); MAX_SIGNALS];
-    let mut links = [Link::default(); MAX_LINKS];
-    let mut movements = [Movement::default(); MAX_MOVEMENTS];
-    let mut times = [0u32; TIME_TABLE_SIZE];
-    let tables = network::read_network(
-        network,
-        &mut signals,
-        &mut links,
-        &mut movements,
-        &mut times,
-    )?;
+    let mut room = Room::default();
+    let tables = network::read_network(network, &mut signals, &mut room)?;
     check_on_network(&tables, plan, sheet, &mut signals, ledger)
 }

@@ -14,10 +14,8 @@ ghost use Rattle.sheet_writer.specs.Stages.{MasksAsked, MasksGot, SheetWritten};
 
 use base_search::{Reason, Refusal};
 use model::Signal;
-use network_tables::{
-    Link, MAX_LINKS, MAX_MOVEMENTS, MAX_SIGNALS, MAX_STEPS, MAX_TRAMS, Movement, NetworkTables,
-    TIME_TABLE_SIZE, Tram,
-};
+use network::Room;
+use network_tables::{MAX_SIGNALS, MAX_STEPS, MAX_TRAMS, NetworkTables, Tram};
 use sheet_lines::{SHEET_FIELDS, SheetLine};
 
 // The run of a cycle that shows: its phase, and the seconds for which it still shows.
@@ -163,15 +161,7 @@ pub fn plan_from_sheet(network: &[u8], sheet: &[u8], out: &mut [u8]) -> Result<u
     ensures padding_ignored { PaddingIgnored network.now (λ padded_network. PaddingIgnored sheet.now (λ padded_sheet. WritePromises (lines padded_network) (lines padded_sheet) out.old result out.new)) }
 {
     let mut signals = [Signal::default(); MAX_SIGNALS];
-    let mut links = [Link::default(); MAX_LINKS];
-    let mut movements = [Movement::default(); MAX_MOVEMENTS];
-    let mut times = [0u32; TIME_TABLE_SIZE];
-    let tables = network::read_network(
-        network,
-        &mut signals,
-        &mut links,
-        &mut movements,
-        &mut times,
-    )?;
+    let mut room = Room::default();
+    let tables = network::read_network(network, &mut signals, &mut room)?;
     write_on_network(&tables, &signals, sheet, out)
 }

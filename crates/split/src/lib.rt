@@ -9,7 +9,8 @@ ghost use Rattle.split.specs.Splitting.{texts, buffers, Passed, HalvesJudged, Wr
 use base_search::{Reason, Refusal, checked};
 use model::Signal;
 use model_split::Lengths;
-use network_tables::{Link, MAX_LINKS, MAX_MOVEMENTS, MAX_SIGNALS, Movement, TIME_TABLE_SIZE};
+use network::Room;
+use network_tables::MAX_SIGNALS;
 use split_tables::{Halves, Whole};
 
 // The buffers of the four texts, lent together. Beside `Lengths`, which is plain numbers: a struct for both would have a type parameter for four names.
@@ -118,16 +119,8 @@ pub fn split(
     ensures padding_ignored { PaddingIgnored network.now (λ padded_network. PaddingIgnored plan.now (λ padded_plan. SplitGot padded_network padded_plan first_half (buffers network_1.old plan_1.old network_2.old plan_2.old) (buffers network_1.new plan_1.new network_2.new plan_2.new) result)) }
 {
     let mut signals = [Signal::default(); MAX_SIGNALS];
-    let mut links = [Link::default(); MAX_LINKS];
-    let mut movements = [Movement::default(); MAX_MOVEMENTS];
-    let mut times = [0u32; TIME_TABLE_SIZE];
-    let tables = network::read_network(
-        network,
-        &mut signals,
-        &mut links,
-        &mut movements,
-        &mut times,
-    )?;
+    let mut room = Room::default();
+    let tables = network::read_network(network, &mut signals, &mut room)?;
     let whole = Whole {
         plan,
         tables,
