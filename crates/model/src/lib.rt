@@ -38,6 +38,7 @@ impl Signal {
 impl From<[u32; SIGNAL_FIELDS]> for Signal {
     ghost from_gives = { λ fields signal. signal ≡ signal_by (λ k. get_or fields k 0) };
 
+    // Each time at its place, since a least and a greatest stand in turn: a loop would have to work the places out, as 6 + 2 * k and 7 + 2 * k.
     fn from(fields: [u32; SIGNAL_FIELDS]) -> Self {
         Signal {
             least_cycle: fields[0],
@@ -58,7 +59,7 @@ impl From<[u32; SIGNAL_FIELDS]> for Signal {
     }
 }
 
-// A signal's numbers as its `G` line has them, with room for eight phases.
+// A signal's numbers as its `G` line has them, with room for eight phases: written out, as they are read.
 impl From<&Signal> for [u32; SIGNAL_FIELDS] {
     ghost from_gives = { λ signal fields. fields ≡ signal_row signal.now };
 

@@ -14,6 +14,9 @@ use base_search::{Reason, Refusal, checked};
 use model::Signal;
 use network_tables::{Counts, Link, MAX_LINKS, Movement, Reading, read_rows};
 
+// The greatest exit rate of a link, and rate of a movement.
+const MAX_RATE: u32 = 10000;
+
 // Refusal 4: a link without a signal has no phase; one with a signal has a phase, and none above the signal's number of phases.
 fn valid_mask(mask: u32, signal: usize, signals: &[Signal]) -> bool
     requires { (FewPhases signals.now) × (signal ≤ length signals.now) }
@@ -37,7 +40,7 @@ fn valid_link(link: Link, signals: &[Signal]) -> bool
     }
     (link.capacity <= 2000000000)
         & (1..=3600).contains(&link.travel_time)
-        & (link.exit_rate <= 10000)
+        & (link.exit_rate <= MAX_RATE)
         & valid_mask(link.phase_mask, signal, signals)
         & (link.standing <= link.capacity)
 }
@@ -63,7 +66,7 @@ pub fn read_links(
     Ok(reading.moved_to(next))
 }
 
-// Refusal 5: the pair (from, to) of movement `j` is above that of the movement before.
+// Refusal 5: the pair (from, to) of movement `j` is above that of the movement before. Tried as a comparison of tuples: `search` did not close the answer.
 fn pair_rises(movements: &[Movement], j: usize) -> bool
     requires { j < length movements.now }
     ensures { result ≡ pair_rises_in movements.now j }
@@ -87,7 +90,7 @@ fn valid_movement(movements: &[Movement], links: usize, j: usize) -> bool
     (1..=links).contains(&from)
         & (1..=links).contains(&to)
         & (from != to)
-        & (1..=10000).contains(&movement.rate)
+        & (1..=MAX_RATE).contains(&movement.rate)
         & (1..=1000).contains(&movement.share)
         & pair_rises(movements, j)
 }

@@ -88,7 +88,7 @@ module _ {text : List ℕ} {reading : Reading} {r : ℕ} {signals : List Signal}
       head-size = read.size ∙ ap length clear ∙ length-replicate {A = ℕ} signal_fields 0
 
       -- the whole line has at most 22 numbers
-      pub whole-fits : {width : ℕ} → width ≡ head_fields + 2 * phases → 0 + width ≤ length head
+      pub whole-fits : {width : ℕ} → width ≡ head_fields + 2 * phases → width ≤ length head
       whole-fits w = omega (arith, few-valid, head-size)
 
       module _ {width : ℕ} (w : width ≡ head_fields + 2 * phases) {fields : List ℕ} {result : (Option ℕ)} (row : RowRead letter_g width text reading.next 0 head result fields) where

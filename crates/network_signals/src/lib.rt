@@ -22,6 +22,9 @@ use network_tables::{
 // How many numbers a `G` line has before those of its phases.
 const HEAD_FIELDS: usize = 6;
 
+// How many seconds a phase, and a cycle, may take at most.
+const LONGEST_TIME: u32 = 3600;
+
 // Refusal 2.
 fn valid_counts(counts: Counts) -> bool
     ensures { result ≡ valid_counts_in counts }
@@ -39,7 +42,7 @@ pub fn read_counts(text: &[u8]) -> Result<Reading, Refusal>
     ensures { Judged (count_checks (lines text.now)) (CountsHeld text.now) result }
 {
     let mut fields = [0u32; COUNT_FIELDS];
-    let Some(next) = network_tables::read_row(text, 0, b'N', &mut fields, 0, COUNT_FIELDS) else {
+    let Some(next) = network_tables::read_row(text, 0, b'N', &mut fields, COUNT_FIELDS) else {
         return Err(Reason::NetworkForm.refusal(1, 0));
     };
     let counts = Counts::from(fields);
@@ -62,10 +65,10 @@ pub fn read_counts(text: &[u8]) -> Result<Reading, Refusal>
 fn valid_time(least: u32, greatest: u32) -> bool
     ensures { result ≡ valid_time least greatest }
 {
-    (1 <= least) & (least..=3600).contains(&greatest)
+    (1 <= least) & (least..=LONGEST_TIME).contains(&greatest)
 }
 
-// Refusal 3, the times of every phase.
+// Refusal 3, the times of every phase: by index, since the least and the greatest times are two tables that go together by one.
 fn valid_times(signal: Signal) -> bool
     requires { signal.phases ≤ 8 }
     ensures { result ≡ valid_times signal signal.phases }
@@ -85,7 +88,7 @@ fn valid_signal(signal: Signal) -> bool
     let at = signal.shown as usize - 1;
     valid_times(signal)
         & (1 <= signal.least_cycle)
-        & (signal.least_cycle..=3600).contains(&signal.greatest_cycle)
+        & (signal.least_cycle..=LONGEST_TIME).contains(&signal.greatest_cycle)
         & (signal.shown_for <= signal.greatest[at])
         & (signal.shown_for..=signal.greatest_cycle).contains(&signal.cycle_clock)
         & ((signal.shown != 1) | (signal.cycle_clock == signal.shown_for))
@@ -123,7 +126,7 @@ fn read_signal(
     let at = reading.next;
     let line = reading.counts.signal_line(r) + 1;
     let mut fields = [0u32; SIGNAL_FIELDS];
-    if !network_tables::read_head(text, at, b'G', &mut fields, 0, HEAD_FIELDS) {
+    if !network_tables::read_head(text, at, b'G', &mut fields, HEAD_FIELDS) {
         return Err(Reason::NetworkForm.refusal(line, 0));
     }
     let head = Signal::from(fields);
@@ -131,7 +134,7 @@ fn read_signal(
         return Err(Reason::Signal.refusal(line, r + 1));
     }
     let width = head.width();
-    let Some(next) = network_tables::read_row(text, at, b'G', &mut fields, 0, width) else {
+    let Some(next) = network_tables::read_row(text, at, b'G', &mut fields, width) else {
         return Err(Reason::NetworkForm.refusal(line, 0));
     };
     let signal = Signal::from(fields);
@@ -143,6 +146,7 @@ fn read_signal(
 }
 
 // All `G` lines: the first refusal, or the signals, and the shortest of all greatest times, 60 where all are longer: no step has more seconds (refusal 6).
+// By index: r also numbers the line and the refusal, and `read_signal` promises of the whole table that it keeps the other signals.
 pub fn read_signals(
     text: &[u8],
     reading: Reading,

@@ -1,5 +1,5 @@
 -- A line that is read into a row of a table.
-use Rattle.base_laws.proofs.Kit.{ℕ, ◌+◌, ◌-◌, ◌≤◌, ◌<◌, ◌≡◌, refl, sym, ap, ◌∙◌, Bool, List, ◌++◌, arith, length, take, drop, get_or, ext_get_or, length-append, length-take, length-drop, List·getD-append, length-take-le, get_or-take, get_or-drop, get_or-append-add}
+use Rattle.base_laws.proofs.Kit.{ℕ, ◌+◌, ◌-◌, ◌≤◌, ◌<◌, ◌≡◌, refl, sym, ap, ◌∙◌, Bool, List, ◌++◌, arith, length, take, drop, get_or, ext_get_or, length-append, length-drop, List·getD-append, length-take-le, get_or-drop, get_or-append-add}
 use Rattle.text_reader.specs.Lines.{lines, starts_as, number}
 use Rattle.text_reader.specs.Reading.{line_at, leading_as, record_at, Got}
 use Rattle.text_reader.proofs.Laws.{got-record, got-head, record-read, record-malformed, starts-line, starts-next}
@@ -12,39 +12,35 @@ use Rattle.network_tables.specs.Blocks.{fields}
 use Rattle.base_search.specs.declared.Refusal.{Refusal}
 use Rattle.std.specs.Prelude.{Option, Some, None, Err, ok_or, unwrap_or}
 
--- a part of a table, w numbers from s on, that comes back as p
-module _ (table p : List ℕ) (s w : ℕ) (h : s + w ≤ length table) (kept : length p ≡ length (take (s + w - s) (drop s table))) where
-  pub part-long : length (take (s + w - s) (drop s table)) ≡ w
-  part-long = simp (length-take, length-drop) (omega arith)
+-- the first w numbers of a table, that come back as p
+module _ (table p : List ℕ) (w : ℕ) (h : w ≤ length table) (kept : length p ≡ length (take w table)) where
+  part-long : length (take w table) ≡ w
+  part-long = length-take-le w table h
 
-  first-long : length (take s table) ≡ s
-  first-long = length-take-le s table (omega arith)
+  part-here : (k : ℕ) → k < w → get_or (p ++ drop w table) (0 + k) 0 ≡ get_or p k 0
+  part-here k l =
+      let here : 0 + k ≡ k = omega arith in
+      ap (λ x. get_or (p ++ drop w table) x 0) here ∙ List·getD-append p (drop w table) 0 k (omega (arith, kept, part-long))
 
-  pub part-past : (k : ℕ) → get_or (take s table ++ (p ++ drop (s + w - s) (drop s table))) (s + k) 0 ≡ get_or (p ++ drop (s + w - s) (drop s table)) k 0
-  part-past k =
-      ap (λ x. get_or (take s table ++ (p ++ drop (s + w - s) (drop s table))) (x + k) 0) (sym first-long) ∙ get_or-append-add (take s table) (p ++ drop (s + w - s) (drop s table)) k 0
+  part-below : (k : ℕ) → k < 0 → get_or (p ++ drop w table) k 0 ≡ get_or table k 0
+  part-below k l = absurd (omega arith)
 
-  pub part-below : (k : ℕ) → k < s → get_or (take s table ++ (p ++ drop (s + w - s) (drop s table))) k 0 ≡ get_or table k 0
-  part-below k l = List·getD-append (take s table) (p ++ drop (s + w - s) (drop s table)) 0 k (omega (arith, first-long)) ∙ get_or-take s table k 0 l
-
-  pub part-above : (k : ℕ) → s + w ≤ k → get_or (take s table ++ (p ++ drop (s + w - s) (drop s table))) k 0 ≡ get_or table k 0
+  part-above : (k : ℕ) → 0 + w ≤ k → get_or (p ++ drop w table) k 0 ≡ get_or table k 0
   part-above k l =
-      let e : k ≡ s + (length p + (k - (s + w))) = omega (arith, kept, part-long) in
-      let f : s + (s + w - s + (k - (s + w))) ≡ k = omega arith in
-      ap (λ x. get_or (take s table ++ (p ++ drop (s + w - s) (drop s table))) x 0) e
-      ∙ part-past (length p + (k - (s + w)))
-      ∙ get_or-append-add p (drop (s + w - s) (drop s table)) (k - (s + w)) 0
-      ∙ get_or-drop (s + w - s) (drop s table) (k - (s + w)) 0
-      ∙ get_or-drop s table (s + w - s + (k - (s + w))) 0
+      let e : k ≡ length p + (k - w) = omega (arith, kept, part-long) in
+      let f : w + (k - w) ≡ k = omega arith in
+      ap (λ x. get_or (p ++ drop w table) x 0) e
+      ∙ get_or-append-add p (drop w table) (k - w) 0
+      ∙ get_or-drop w table (k - w) 0
       ∙ ap (λ x. get_or table x 0) f
 
-  pub part-size : length (take s table ++ (p ++ drop (s + w - s) (drop s table))) ≡ length table
-  part-size = let l = part-long in simp (length-append, length-take, length-drop) (omega arith)
+  part-size : length (p ++ drop w table) ≡ length table
+  part-size = let l = part-long in simp (length-append, length-drop) (omega (arith, kept))
 
-  -- a line that is read into the part
+  -- a line that is read into them
   pub row_read : (letter : ℕ) (text : List ℕ) (at : ℕ) (r : Option ℕ)
-      → Got (record_at letter (length (take (s + w - s) (drop s table))) text at) (leading_as letter (length (take (s + w - s) (drop s table))) (line_at text at)) (take (s + w - s) (drop s table)) r p
-      → RowRead letter w text at s table r (take s table ++ (p ++ drop (s + w - s) (drop s table)))
+      → Got (record_at letter (length (take w table)) text at) (leading_as letter (length (take w table)) (line_at text at)) (take w table) r p
+      → RowRead letter w text at 0 table r (p ++ drop w table)
   unfolding is_form entry
   row_read letter text at r g =
       let told : r ≡ record_at letter w text at = g.told ∙ ap (λ n. record_at letter n text at) part-long in
@@ -54,19 +50,19 @@ module _ (table p : List ℕ) (s w : ℕ) (h : s + w ≤ length table) (kept : l
         above = part-above;
         malformed = λ e i at_i. rw (starts-line text at i at_i) at (record-malformed letter w text at (sym told ∙ e));
         held = λ next e i at_i.
-            let numbers = got-record letter text at (take (s + w - s) (drop s table)) p r next g e in
+            let numbers = got-record letter text at (take w table) p r next g e in
             let read = sym told ∙ e in
             record {
               form = rw (starts-line text at i at_i) at (record-read letter w text at next read).formed;
-              numbers = λ k l. part-past k ∙ List·getD-append p _ 0 k (omega (arith, kept, part-long)) ∙ numbers.each k (omega (arith, part-long)) ∙ ap (λ line. number line k) (starts-line text at i at_i);
+              numbers = λ k l. part-here k l ∙ numbers.each k (omega (arith, part-long)) ∙ ap (λ line. number line k) (starts-line text at i at_i);
               starts = starts-next text at i at_i letter w next read;
             };
       }
 
-  -- the beginning of a line that is read into the part
+  -- the beginning of a line that is read into them
   pub head_read : (letter : ℕ) (text : List ℕ) (at : ℕ) (r : Bool)
-      → Got (starts_as letter (length (take (s + w - s) (drop s table))) (line_at text at)) (leading_as letter (length (take (s + w - s) (drop s table))) (line_at text at)) (take (s + w - s) (drop s table)) r p
-      → HeadRead letter w text at s table r (take s table ++ (p ++ drop (s + w - s) (drop s table)))
+      → Got (starts_as letter (length (take w table)) (line_at text at)) (leading_as letter (length (take w table)) (line_at text at)) (take w table) r p
+      → HeadRead letter w text at 0 table r (p ++ drop w table)
   unfolding entry
   head_read letter text at r g =
       record {
@@ -75,8 +71,8 @@ module _ (table p : List ℕ) (s w : ℕ) (h : s + w ≤ length table) (kept : l
         above = part-above;
         told = λ i at_i. g.told ∙ rw (part-long, starts-line text at i at_i);
         numbers = λ e i at_i k l.
-            let numbers = got-head letter text at (take (s + w - s) (drop s table)) p r g e in
-            part-past k ∙ List·getD-append p _ 0 k (omega (arith, kept, part-long)) ∙ numbers.each k (omega (arith, part-long)) ∙ ap (λ line. number line k) (starts-line text at i at_i);
+            let numbers = got-head letter text at (take w table) p r g e in
+            part-here k l ∙ numbers.each k (omega (arith, part-long)) ∙ ap (λ line. number line k) (starts-line text at i at_i);
       }
 
 -- a line that is not read is refused

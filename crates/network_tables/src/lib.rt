@@ -104,7 +104,7 @@ impl From<Tram> for [u32; TRAM_FIELDS] {
     }
 }
 
-// A `Q` line: a link, with the number of its signal, from 1, or 0 for none.
+// A `Q` line: a link, with the number of its signal, from 1, or 0 for none: no `Option`, as it is compared with the text's number, and written back as it is.
 #[derive(Clone, Copy, Default)]
 pub struct Link {
     pub capacity: u32,
@@ -179,8 +179,8 @@ impl From<Movement> for [u32; MOVEMENT_FIELDS] {
 }
 
 // How far a network text has been read while its lines pass: its counts, the place of the next line, the places where its `T`, its `G`, its `H` and its `S` lines
-// start, the shortest of all greatest times, and whether the lengths of the past steps and the number of all steps are valid: a `bool`, since 30 is told only
-// behind the last `H` line.
+// start, the shortest of all greatest times, and whether the lengths of the past steps and the number of all steps are valid: a `bool`, since 30 is told
+// after all lines.
 #[derive(Clone, Copy)]
 pub struct Reading {
     pub counts: Counts,
@@ -286,20 +286,12 @@ pub fn times(a: u32, b: u32) -> u64
     u64::from(a) * u64::from(b)
 }
 
-// Reads a line of this letter and `width` numbers into the table's row that starts at `start`.
-pub fn read_row(
-    text: &[u8],
-    at: usize,
-    letter: u8,
-    table: &mut [u32],
-    start: usize,
-    width: usize,
-) -> Option<usize>
-    requires { start + width ≤ length table.old }
-    ensures { RowRead letter width text.now at start table.old result table.new }
+// Reads a line of this letter and `width` numbers into a row.
+pub fn read_row(text: &[u8], at: usize, letter: u8, row: &mut [u32], width: usize) -> Option<usize>
+    requires { width ≤ length row.old }
+    ensures { RowRead letter width text.now at 0 row.old result row.new }
 {
-    let end = start + width;
-    text_reader::line_at(text, at, letter, &mut table[start..end])
+    text_reader::line_at(text, at, letter, &mut row[..width])
 }
 
 // Reads a line that has passed again, and gives the place of the next line. Such a line is never malformed.
@@ -307,28 +299,21 @@ pub fn read_again(text: &[u8], at: usize, letter: u8, row: &mut [u32], width: us
     requires { width ≤ length row.old }
     ensures { ReadAgain letter width text.now at row.old result row.new }
 {
-    read_row(text, at, letter, row, 0, width).unwrap_or(at)
+    read_row(text, at, letter, row, width).unwrap_or(at)
 }
 
-// Reads the first `width` numbers of a line of this letter, whatever follows them, into the table's row that starts at `start`: a `bool`, for
-// an `if` or `checked`, as there is no place of a next line to give.
-pub fn read_head(
-    text: &[u8],
-    at: usize,
-    letter: u8,
-    table: &mut [u32],
-    start: usize,
-    width: usize,
-) -> bool
-    requires { start + width ≤ length table.old }
-    ensures { HeadRead letter width text.now at start table.old result table.new }
+// Reads the first `width` numbers of a line of this letter, whatever follows them, into a row: a `bool`, for an `if` or `checked`, as there is no place of a
+// next line to give.
+pub fn read_head(text: &[u8], at: usize, letter: u8, row: &mut [u32], width: usize) -> bool
+    requires { width ≤ length row.old }
+    ensures { HeadRead letter width text.now at 0 row.old result row.new }
 {
-    let end = start + width;
-    text_reader::head_at(text, at, letter, &mut table[start..end])
+    text_reader::head_at(text, at, letter, &mut row[..width])
 }
 
 // Reads `count` lines of a letter, each into its item of a table, where it is judged before the next line is read: the place behind the last of them, or the
-// first refusal. `first` is the line, from 1, that starts at `at`.
+// first refusal. `first` is the line, from 1, that starts at `at`. By index: the closure judges the table up to the item,
+// and could not read it while `iter_mut` lends the item.
 pub fn read_rows<
     const W: usize,
     T: From<[u32; W]> + Copy,
@@ -352,7 +337,7 @@ pub fn read_rows<
     let mut fields = [0u32; W];
     let mut place = at;
     for k in 0..count {
-        let Some(next) = read_row(text, place, letter, &mut fields, 0, W) else {
+        let Some(next) = read_row(text, place, letter, &mut fields, W) else {
             return Err(Reason::NetworkForm.refusal(first + k, 0));
         };
         table[k] = T::from(fields);

@@ -187,7 +187,7 @@ pub fn read_line(
         step_signals::hold_masks(&signals[..counts.signals], line);
         return Some(at);
     }
-    network_tables::read_row(plan, at, b'P', line, 0, counts.plan_width())
+    network_tables::read_row(plan, at, b'P', line, counts.plan_width())
 }
 
 impl Run<'_> {
