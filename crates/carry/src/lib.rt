@@ -26,7 +26,10 @@ ghost use Rattle.carry.specs.Trams.{left_of};
 use base_search::{Reason, Refusal, checked};
 use model::{SIGNAL_FIELDS, Signal};
 use network::Room;
-use network_tables::{COUNT_FIELDS, Counts, Link, MAX_LINKS, MAX_SIGNALS, MAX_TRAMS, NetworkTables, PAST_SIZE, Tram, entered_at, left_at, read_again, row_start};
+use network_tables::{
+    COUNT_FIELDS, Counts, Link, MAX_LINKS, MAX_SIGNALS, MAX_TRAMS, NetworkTables, PAST_SIZE, Tram,
+    entered_at, left_at, read_again, row_start,
+};
 use network_writer::{Output, count_rows};
 
 // How a network stands at a boundary of a plan: its signals, the vehicles that wait, and the ledger's rows up to there. All are lent.

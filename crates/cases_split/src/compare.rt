@@ -28,7 +28,7 @@ struct Case<'a> {
     told: Buffers<'a>,
 }
 
-// The place of the cases that were refused like this, or written.
+// The place of the cases that were refused like this, or written. Not by `tally::place_of`: the network's own refusals have one place together.
 fn place_of(refusal: Option<Refusal>) -> usize {
     match refusal {
         None => 0,

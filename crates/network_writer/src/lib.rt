@@ -58,7 +58,7 @@ impl Output<'_> {
     }
 }
 
-// How many items of a table are not left out.
+// How many items of a table are not left out. Not by `filter` and `count`: what `count` asks did not follow of a closure that is handed in.
 pub fn count_rows<T: Copy, F: Fn(usize, T) -> Option<T>>(items: &[T], change: F) -> usize
     requires { Asks (F.pre change) items.now }
     ensures { (f : ℕ → List (List ℕ)) → GivesAsMany (F.post change) items.now f → result ≡ length (rows_to (length items.now) f) }

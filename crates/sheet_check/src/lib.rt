@@ -21,7 +21,7 @@ use sheet_lines::{SHEET_FIELDS, SheetLine};
 
 // What is watched of a signal: whether the run that it shows is to be tested, the line of its last ordinary step, and the line of its first broken run, 0 for
 // none. An Option would let in a line 0, which the definitions of 34 and a refusal have for none, and each contract would have to rule it out.
-#[derive(Clone, Copy)]
+#[derive(Clone, Copy, Default)]
 pub struct Watch {
     pub tested: bool,
     pub line: u32,
@@ -62,11 +62,7 @@ fn watch_after(
     ensures { result ≡ watch_after watch signal.now phase line time duration }
 {
     if phase == signal.shown {
-        return Watch {
-            tested: watch.tested,
-            line,
-            broken: watch.broken,
-        };
+        return Watch { line, ..watch };
     }
     Watch {
         tested: signal.greatest_cycle <= time,
@@ -166,19 +162,10 @@ fn pass_plan(
         tables,
         trams,
     };
-    let watch = Watch {
-        tested: false,
-        line: 0,
-        broken: 0,
-    };
     let mut pass = Pass {
-        place: Place {
-            boundary: 0,
-            step_at: reading.steps_at,
-            plan_at: 0,
-        },
+        place: Place::first(reading.steps_at),
         time: 0,
-        watches: [watch; MAX_SIGNALS],
+        watches: [Watch::default(); MAX_SIGNALS],
     };
     for _ in 0..reading.counts.steps {
         pass = pass_step(&run, table, signals, pass);

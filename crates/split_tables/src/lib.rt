@@ -129,7 +129,7 @@ fn in_set(set: u32, i: usize) -> bool
     (set >> i) % 2 == 1
 }
 
-// Whether a link that is not in a set has signal `r`.
+// Whether a link that is not in a set has signal `r`. By `all`, as the definition says it.
 fn outside_has(set: u32, links: &[Link], r: usize) -> bool
     requires { (length links.now ≤ max_links) × (r < max_links) }
     ensures { result ≡ outside_has set links.now r }

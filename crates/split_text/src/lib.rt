@@ -159,7 +159,7 @@ fn raised(number: u32, sum: u64) -> u32
         .min(u64::from(u32::MAX)) as u32
 }
 
-// Adds the number of a border movement to the sum of a link, from 1.
+// Adds the number of a border movement to the sum of a link, from 1. Whether it is one is asked here, as the definition has it.
 #[tactic(auto, unfolding(crate::specs::Border::added_at))]
 fn add_at(border: bool, link: usize, number: u32, sums: &mut [u64])
     requires { (1 ≤ link) × (link ≤ length sums.old) × (get_or sums.old (link - 1) 0 ≤ 1_000_000_000_000) }
@@ -316,11 +316,7 @@ fn put_steps(whole: &Whole, half: &HalfTables, output: &mut Output)
     ensures { StepsPut whole.now half.now output.old output.new }
 {
     let reading = whole.tables.reading;
-    let mut place = Place {
-        boundary: 0,
-        step_at: reading.steps_at,
-        plan_at: 0,
-    };
+    let mut place = Place::first(reading.steps_at);
     for _ in 0..reading.counts.steps {
         place = put_step(whole, half, place, output);
     }

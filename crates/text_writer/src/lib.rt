@@ -29,7 +29,7 @@ pub fn widen(numbers: &[u32], wide: &mut [u64])
     }
 }
 
-// A lent buffer, and the place where the next byte is written.
+// A lent buffer, and the place where the next byte is written. Not an `Output` of network_writer, which puts lines where there is no room, too: here there is always room.
 #[derive(Drop)]
 struct Cursor<'a> {
     out: &'a mut [u8],
