@@ -190,7 +190,7 @@ fn set_bit(bytes: &mut [u8], k: usize)
     bytes[k / 8] |= 1 << (k % 8);
 }
 
-// The bit of a phase in a mask.
+// The bit of a phase in a mask. Not `step_signals::mask_of`, which is asked only of phases up to 8: this one is as a listing names it.
 #[tactic(auto, using(crate::proofs::Tests::tests, std::proofs::lemmas::Grind::common_steps))]
 fn phase_bit(phase: u64) -> u32
     ensures { result ≡ phase_bit phase }

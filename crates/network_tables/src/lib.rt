@@ -373,7 +373,8 @@ pub fn demand(step: &[u32], i: usize) -> u32
     step[1 + i]
 }
 
-// The numbers of a `P` line: what it admits on link i, lets out from link i, and moves by movement j.
+// The numbers of a `P` line: what it admits on link i, lets out from link i, and moves by movement j. Line and counts stay two parameters: a `Step` has both, and the
+// other callers have a line of their own beside a network's counts.
 pub fn admitted(line: &[u32], counts: Counts, i: usize) -> u32
     requires { Few counts × (i < max_links) × (length line.now ≡ line_size) }
     ensures { result ≡ admitted_in counts line.now i }
@@ -395,7 +396,7 @@ pub fn moved(line: &[u32], counts: Counts, j: usize) -> u32
     line[counts.signals + (2 * counts.links + j)]
 }
 
-// Entered and left of link i in a row of the ledger.
+// Entered and left of link i in a row of the ledger, which is flat as C lends it.
 pub fn entered(row: &[u32], i: usize) -> u32
     requires { 2 * i + 1 < length row.now }
     ensures { result ≡ entered_in row.now i }
@@ -418,7 +419,7 @@ pub fn row_start(n: usize, count: usize) -> usize
     2 * n * count
 }
 
-// Entered and left of link i at boundary `n`, as a ledger has them.
+// Entered and left of link i at boundary `n`, as a ledger has them. C lends the ledger as a slice, so that the count of links stands beside it.
 pub fn entered_at(ledger: &[u32], count: usize, n: usize, i: usize) -> u32
     requires { RowHeld ledger.now count n i }
     ensures { result ≡ entered_at ledger.now count n i }

@@ -140,7 +140,7 @@ pub fn write_measured<F: Fn(&mut [u8]) -> usize>(
     Ok(length)
 }
 
-// Writes a plan's text by a table with a row for each step: refusal 24 where the buffer is too short.
+// Writes a plan's text by a table with a row for each step: refusal 24 where the buffer is too short. The counts stand beside the rows, which they part into columns.
 pub fn write_plan<const C: usize>(
     rows: &[[u32; C]],
     counts: Counts,

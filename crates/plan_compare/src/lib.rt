@@ -93,6 +93,7 @@ const NOTHING: LetOut = LetOut {
 };
 
 // What a plan has let out up to the next boundary. An empty text means hold, and lets nothing out; the lines of another have passed, so that each is read.
+// What a line lets out is summed by `sum_of`, as in `plan_steps`.
 fn next_boundary(plan: &[u8], so_far: LetOut, counts: Counts) -> LetOut
     requires { NextAsked counts plan.now so_far }
     ensures { NextGot counts plan.now so_far result }
