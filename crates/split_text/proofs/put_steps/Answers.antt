@@ -3,7 +3,7 @@ use Rattle.split_text.proofs.Steps.{steps-none, step-asked, steps_next, steps-al
 use Rattle.split_text.proofs.put_steps.Goals as goal
 
 pub loop-init : goal.loop-init
-loop-init c = steps-none c.requires
+loop-init c = rw c.first-place.ensures (steps-none c.requires)
 
 pub put_step-place-requires : goal.put_step-place-requires
 put_step-place-requires c = step-asked c.requires c.loop.invariant c.loop-test.true
