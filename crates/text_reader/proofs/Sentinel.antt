@@ -1,5 +1,5 @@
 -- The laws of the functions that read a text which a line feed ends: behind a byte that is no line feed the text goes on. Each is in the form of a need.
-use Rattle.base_laws.proofs.Kit.{ℕ, ◌+◌, ◌-◌, ◌*◌, ◌≤◌, ◌<◌, ◌≡◌, refl, sym, ap, ◌∙◌, ◌≢◌, Bool, true, false, cond, not, and-eq-true_iff, List, [], ◌∷◌, arith, add-zero, ℕ_discrete, eq-eqb, eqb-true, ne_eqb, eqb, length, get_or, set, length-set}
+use Rattle.base_laws.proofs.Kit.{ℕ, ◌+◌, ◌-◌, ◌*◌, ◌≤◌, ◌<◌, ◌≡◌, refl, sym, ap, ◌∙◌, ◌≢◌, Bool, true, false, cond, not, and-eq-true_iff, List, [], ◌∷◌, arith, add-zero, ℕ_discrete, eq-eqb, eqb-true, ne_eqb, eqb, length, get_or, set}
 use Rattle.text_reader.specs.declared.Ended.{Ended}
 use Rattle.text_reader.specs.declared.Ended.TheVariants.{ByTab, ByLineFeed, Neither}
 use Rattle.text_reader.specs.declared.Numbers.{Numbers}
@@ -181,12 +181,12 @@ module _ (text : List ℕ) (at : ℕ) (out₀ out : List ℕ) (i k : ℕ) (inv :
         unfolding EndsAs
         last = let one = rw g at e in stored_more text at out₀ out i k inv (Some number) number h (sym one.0) refl
 
-        pub feed-all : k + 1 ≡ length (set out k number.value) → GotNumbers text at out₀ (Last (number.next + 1)) (set out k number.value)
-        feed-all n = all-feed text at out₀ (set out k number.value) number.next (k + 1) last (omega (arith, length-set out k number.value)) feed
+        pub feed-all : k + 1 ≡ length out₀ → GotNumbers text at out₀ (Last (number.next + 1)) (set out k number.value)
+        feed-all n = all-feed text at out₀ (set out k number.value) number.next (k + 1) last (omega arith) feed
 
-        pub feed-early : k + 1 ≢ length (set out k number.value) → GotNumbers text at out₀ Missing (set out k number.value)
+        pub feed-early : k + 1 ≢ length out₀ → GotNumbers text at out₀ Missing (set out k number.value)
         feed-early n =
-            stored-stop text at out₀ (set out k number.value) number.next (k + 1) last None (omega (arith, n, length-set out k number.value))
+            stored-stop text at out₀ (set out k number.value) number.next (k + 1) last None (omega (arith, n))
             (tabbed-other text number.next (λ z. omega (arith, feed))) refl
 
 -- ---- the numbers of a line of a letter

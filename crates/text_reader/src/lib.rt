@@ -172,8 +172,7 @@ fn sentinel_tabbed_at(text: &[u8], at: usize) -> Ended
     }
 }
 
-// Reads the numbers after a tab in a text that a line feed ends. By index: the last place is told by its number and the length, which `iter_mut` would have lent.
-// Not inlined, for check_plan's speed (docs/MEASUREMENTS.md).
+// Reads the numbers after a tab in a text that a line feed ends. Not inlined, for check_plan's speed (docs/MEASUREMENTS.md).
 #[inline(never)]
 fn sentinel_numbers_at(text: &[u8], at: usize, out: &mut [u32]) -> Numbers
     requires at_value { field_at text.now at ≡ [] }
@@ -181,17 +180,18 @@ fn sentinel_numbers_at(text: &[u8], at: usize, out: &mut [u32]) -> Numbers
     requires text_value { get_or text.now (length text.now - 1) 0 ≡ 10 }
     ensures { GotNumbers text.now at out.old result out.new }
 {
+    let count = out.len();
     let mut i = at;
-    for k in 0..out.len() {
+    for (k, number) in out.iter_mut().enumerate() {
         match sentinel_tabbed_at(text, i) {
-            Ended::ByTab(number) => {
-                out[k] = number.value;
-                i = number.next;
+            Ended::ByTab(found) => {
+                *number = found.value;
+                i = found.next;
             }
-            Ended::ByLineFeed(number) => {
-                out[k] = number.value;
-                if k + 1 == out.len() {
-                    return Numbers::Last(number.next + 1);
+            Ended::ByLineFeed(found) => {
+                *number = found.value;
+                if k + 1 == count {
+                    return Numbers::Last(found.next + 1);
                 }
                 return Numbers::Missing;
             }
