@@ -59,7 +59,7 @@ impl PassedLines {
         let mut row = [0u32; PAST_SIZE];
         let mut line = self.at;
         for _ in 0..self.count {
-            line = read_again(text, line, self.letter, &mut row, self.width);
+            line = read_again(text, line, self.letter, &mut row[..self.width]);
             output.put_line(self.letter, &row[..self.width]);
         }
     }
@@ -130,7 +130,7 @@ fn put_steps(tables: &NetworkTables, standing: &Standing, output: &mut Output) -
     let mut row = [0u32; PAST_SIZE];
     let mut line = tables.reading.steps_at;
     for n in 0..standing.boundary {
-        line = read_again(tables.text, line, b'S', &mut row, counts.step_width());
+        line = read_again(tables.text, line, b'S', &mut row[..counts.step_width()]);
         fill_volumes(standing.ledger, counts.links, n, &mut row);
         output.put_line(b'H', &row[..counts.past_width()]);
     }

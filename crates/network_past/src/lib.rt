@@ -26,7 +26,7 @@ pub fn read_past(text: &[u8], reading: Reading, times: &mut [u32]) -> Result<Rea
     times[0] = 0;
     for m in 0..counts.past {
         let line = counts.timeline_line(m) + 1;
-        let read = network_tables::read_row(text, place, b'H', &mut fields, width);
+        let read = network_tables::read_row(text, place, b'H', &mut fields[..width]);
         place = read.ok_or(Reason::NetworkForm.refusal(line, 0))?;
         timed = step_arrivals::next_time(times, m, fields[0], timed);
     }

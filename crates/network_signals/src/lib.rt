@@ -42,7 +42,7 @@ pub fn read_counts(text: &[u8]) -> Result<Reading, Refusal>
     ensures { Judged (count_checks (lines text.now)) (CountsHeld text.now) result }
 {
     let mut fields = [0u32; COUNT_FIELDS];
-    let Some(next) = network_tables::read_row(text, 0, b'N', &mut fields, COUNT_FIELDS) else {
+    let Some(next) = network_tables::read_row(text, 0, b'N', &mut fields) else {
         return Err(Reason::NetworkForm.refusal(1, 0));
     };
     let counts = Counts::from(fields);
@@ -126,7 +126,7 @@ fn read_signal(
     let at = reading.next;
     let line = reading.counts.signal_line(r) + 1;
     let mut fields = [0u32; SIGNAL_FIELDS];
-    if !network_tables::read_head(text, at, b'G', &mut fields, HEAD_FIELDS) {
+    if !network_tables::read_head(text, at, b'G', &mut fields[..HEAD_FIELDS]) {
         return Err(Reason::NetworkForm.refusal(line, 0));
     }
     let head = Signal::from(fields);
@@ -134,7 +134,7 @@ fn read_signal(
         return Err(Reason::Signal.refusal(line, r + 1));
     }
     let width = head.width();
-    let Some(next) = network_tables::read_row(text, at, b'G', &mut fields, width) else {
+    let Some(next) = network_tables::read_row(text, at, b'G', &mut fields[..width]) else {
         return Err(Reason::NetworkForm.refusal(line, 0));
     };
     let signal = Signal::from(fields);

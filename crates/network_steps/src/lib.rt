@@ -50,7 +50,7 @@ pub fn read_steps(
     let mut place = reading.next;
     for n in 0..counts.steps {
         let line = counts.step_line(n) + 1;
-        let read = network_tables::read_row(text, place, b'S', &mut step, width);
+        let read = network_tables::read_row(text, place, b'S', &mut step[..width]);
         place = read.ok_or(Reason::NetworkForm.refusal(line, 0))?;
         let seconds = network_tables::step_length(&step);
         let asked = &step[1..width];

@@ -5,29 +5,27 @@ use Rattle.text_reader.specs.Reading.{Starts}
 use Rattle.model.specs.Network.{entry}
 use Rattle.model.specs.Table.{is_form}
 
--- line i has the letter and so many numbers, the table has these from `start` on, and line i + 1 starts at `next`
-pub record LineHeld (letter width : ℕ) (text : List ℕ) (i next start : ℕ) (table : List ℕ) : Type 0 where
+-- line i has the letter and so many numbers, the row begins with these, and line i + 1 starts at `next`
+pub record LineHeld (letter width : ℕ) (text : List ℕ) (i next : ℕ) (row : List ℕ) : Type 0 where
   pub form : is_form (lines text) i letter width ≡ true
-  pub numbers : (k : ℕ) → k < width → get_or table (start + k) 0 ≡ entry (lines text) i k
+  pub numbers : (k : ℕ) → k < width → get_or row k 0 ≡ entry (lines text) i k
   pub starts : Starts text next (suc i)
 
--- the line at a place is held, or it is malformed; what stands outside the row is kept
-pub record RowRead (letter width : ℕ) (text : List ℕ) (at start : ℕ) (before : List ℕ) (result : Option ℕ) (after : List ℕ) : Type 0 where
+-- the line at a place is held, or it is malformed; what stands behind its numbers is kept
+pub record RowRead (letter width : ℕ) (text : List ℕ) (at : ℕ) (before : List ℕ) (result : Option ℕ) (after : List ℕ) : Type 0 where
   pub size : length after ≡ length before
-  pub below : (k : ℕ) → k < start → get_or after k 0 ≡ get_or before k 0
-  pub above : (k : ℕ) → start + width ≤ k → get_or after k 0 ≡ get_or before k 0
+  pub above : (k : ℕ) → width ≤ k → get_or after k 0 ≡ get_or before k 0
   pub malformed : result ≡ None → (i : ℕ) → Starts text at i → is_form (lines text) i letter width ≡ false
-  pub held : (next : ℕ) → result ≡ Some next → (i : ℕ) → Starts text at i → LineHeld letter width text i next start after
+  pub held : (next : ℕ) → result ≡ Some next → (i : ℕ) → Starts text at i → LineHeld letter width text i next after
 
 -- a line that has passed is read again: its numbers, and the place of the next line
 pub record ReadAgain (letter width : ℕ) (text : List ℕ) (at : ℕ) (before : List ℕ) (next : ℕ) (after : List ℕ) : Type 0 where
   pub size : length after ≡ length before
-  pub held : (i : ℕ) → Starts text at i → is_form (lines text) i letter width ≡ true → LineHeld letter width text i next 0 after
+  pub held : (i : ℕ) → Starts text at i → is_form (lines text) i letter width ≡ true → LineHeld letter width text i next after
 
 -- as RowRead, of the beginning of a line
-pub record HeadRead (letter width : ℕ) (text : List ℕ) (at start : ℕ) (before : List ℕ) (result : Bool) (after : List ℕ) : Type 0 where
+pub record HeadRead (letter width : ℕ) (text : List ℕ) (at : ℕ) (before : List ℕ) (result : Bool) (after : List ℕ) : Type 0 where
   pub size : length after ≡ length before
-  pub below : (k : ℕ) → k < start → get_or after k 0 ≡ get_or before k 0
-  pub above : (k : ℕ) → start + width ≤ k → get_or after k 0 ≡ get_or before k 0
+  pub above : (k : ℕ) → width ≤ k → get_or after k 0 ≡ get_or before k 0
   pub told : (i : ℕ) → Starts text at i → result ≡ starts_as letter width (get_or (lines text) i no_line)
-  pub numbers : result ≡ true → (i : ℕ) → Starts text at i → (k : ℕ) → k < width → get_or after (start + k) 0 ≡ entry (lines text) i k
+  pub numbers : result ≡ true → (i : ℕ) → Starts text at i → (k : ℕ) → k < width → get_or after k 0 ≡ entry (lines text) i k

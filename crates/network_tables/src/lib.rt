@@ -286,29 +286,26 @@ pub fn times(a: u32, b: u32) -> u64
     u64::from(a) * u64::from(b)
 }
 
-// Reads a line of this letter and `width` numbers into a row.
-pub fn read_row(text: &[u8], at: usize, letter: u8, row: &mut [u32], width: usize) -> Option<usize>
-    requires { width ≤ length row.old }
-    ensures { RowRead letter width text.now at 0 row.old result row.new }
+// Reads a line of this letter, whose numbers fill a row: the place of the next line.
+pub fn read_row(text: &[u8], at: usize, letter: u8, row: &mut [u32]) -> Option<usize>
+    ensures { RowRead letter (length row.old) text.now at row.old result row.new }
 {
-    text_reader::line_at(text, at, letter, &mut row[..width])
+    text_reader::line_at(text, at, letter, row)
 }
 
 // Reads a line that has passed again, and gives the place of the next line. Such a line is never malformed.
-pub fn read_again(text: &[u8], at: usize, letter: u8, row: &mut [u32], width: usize) -> usize
-    requires { width ≤ length row.old }
-    ensures { ReadAgain letter width text.now at row.old result row.new }
+pub fn read_again(text: &[u8], at: usize, letter: u8, row: &mut [u32]) -> usize
+    ensures { ReadAgain letter (length row.old) text.now at row.old result row.new }
 {
-    read_row(text, at, letter, row, width).unwrap_or(at)
+    read_row(text, at, letter, row).unwrap_or(at)
 }
 
-// Reads the first `width` numbers of a line of this letter, whatever follows them, into a row: a `bool`, for an `if` or `checked`, as there is no place of a
-// next line to give.
-pub fn read_head(text: &[u8], at: usize, letter: u8, row: &mut [u32], width: usize) -> bool
-    requires { width ≤ length row.old }
-    ensures { HeadRead letter width text.now at 0 row.old result row.new }
+// Reads the beginning of a line of this letter: the numbers that fill a row, whatever follows them. A `bool`, for an `if` or `checked`, as there is no place of
+// a next line to give.
+pub fn read_head(text: &[u8], at: usize, letter: u8, row: &mut [u32]) -> bool
+    ensures { HeadRead letter (length row.old) text.now at row.old result row.new }
 {
-    text_reader::head_at(text, at, letter, &mut row[..width])
+    text_reader::head_at(text, at, letter, row)
 }
 
 // Reads `count` lines of a letter, each into its item of a table, where it is judged before the next line is read: the place behind the last of them, or the
@@ -337,7 +334,7 @@ pub fn read_rows<
     let mut fields = [0u32; W];
     let mut place = at;
     for k in 0..count {
-        let Some(next) = read_row(text, place, letter, &mut fields, W) else {
+        let Some(next) = read_row(text, place, letter, &mut fields) else {
             return Err(Reason::NetworkForm.refusal(first + k, 0));
         };
         table[k] = T::from(fields);

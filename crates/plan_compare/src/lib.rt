@@ -102,7 +102,7 @@ fn next_boundary(plan: &[u8], so_far: LetOut, counts: Counts) -> LetOut
         return so_far;
     }
     let mut line = [0u32; LINE_SIZE];
-    let at = network_tables::read_again(plan, so_far.at, b'P', &mut line, counts.plan_width());
+    let at = network_tables::read_again(plan, so_far.at, b'P', &mut line[..counts.plan_width()]);
     let let_out_at = counts.signals + counts.links;
     let volume = step_rows::sum_of(&line[let_out_at..let_out_at + counts.links]);
     LetOut {

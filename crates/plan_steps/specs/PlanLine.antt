@@ -30,6 +30,6 @@ pub record LineAsked (signals : List Signal) (counts : Counts) (line : List ℕ)
 -- .. and promises: a text that has bytes is read; an empty one has the signals keep their phases, and leaves the volumes as they were
 pub record LineGot (plan_text : List ℕ) (at : ℕ) (signals : List Signal) (counts : Counts) (before : List ℕ) (result : Option ℕ) (line : List ℕ) : Type 0 where
   pub size : length line ≡ length before
-  pub read : 0 < length plan_text → RowRead letter_p (plan_width counts) plan_text at 0 before result line
+  pub read : 0 < length plan_text → RowRead letter_p (plan_width counts) plan_text at before result line
   pub next : length plan_text ≡ 0 → result ≡ Some at
   pub held : length plan_text ≡ 0 → HeldMasks signals counts.signals before line

@@ -187,7 +187,7 @@ pub fn read_line(
         step_signals::hold_masks(&signals[..counts.signals], line);
         return Some(at);
     }
-    network_tables::read_row(plan, at, b'P', line, counts.plan_width())
+    network_tables::read_row(plan, at, b'P', &mut line[..counts.plan_width()])
 }
 
 impl Run<'_> {
@@ -203,8 +203,7 @@ impl Run<'_> {
             self.tables.text,
             place.step_at,
             b'S',
-            &mut lines.step,
-            counts.step_width(),
+            &mut lines.step[..counts.step_width()],
         );
         let plan_at = read_line(self.plan, place.plan_at, signals, counts, &mut lines.plan)?;
         step_signals::shown_phases(signals, counts.signals, &lines.plan, &mut lines.phases);

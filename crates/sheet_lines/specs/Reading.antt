@@ -45,7 +45,7 @@ pub record LineRead (signal : Signal) (offsets : ℕ) (text : List ℕ) (at : �
   pub size : length line ≡ sheet_fields
   pub refused : result ≡ None → (r : ℕ) → Starts text at r → is_formed signal (lines text) offsets r and is_valid signal (lines text) offsets r ≡ false
   pub held : (next : ℕ) → result ≡ Some next → (r : ℕ) → Starts text at r
-      → LineHeld letter_f (signal.phases + offsets) text r next 0 line × (is_valid signal (lines text) offsets r ≡ true)
+      → LineHeld letter_f (signal.phases + offsets) text r next line × (is_valid signal (lines text) offsets r ≡ true)
 
 -- a sheet is read for the signals, with a line for each of them in the table
 pub record SheetAsked (signals : List Signal) (table : List (List ℕ)) : Type 0 where

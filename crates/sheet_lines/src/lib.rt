@@ -53,7 +53,7 @@ fn read_line(
 {
     // At most eight phases: the cast loses nothing.
     let width = signal.phases as usize + usize::from(offset);
-    let next = network_tables::read_row(text, at, b'F', line, width)?;
+    let next = network_tables::read_row(text, at, b'F', &mut line[..width])?;
     valid_numbers(line, signal, offset).then_some(next)
 }
 

@@ -107,7 +107,7 @@ fn steps_free(whole: &Whole, half: &HalfTables) -> bool
         half,
     };
     for _ in 0..reading.counts.steps {
-        line = network_tables::read_again(whole.tables.text, line, b'S', &mut step, width);
+        line = network_tables::read_again(whole.tables.text, line, b'S', &mut step[..width]);
         if !border.step_free(&step) {
             return false;
         }

@@ -261,7 +261,7 @@ fn put_step(whole: &Whole, half: &HalfTables, place: Place, output: &mut Output)
     let mut line = [0u32; LINE_SIZE];
     let mut numbers = [0u32; STEP_SIZE];
     let width = counts.step_width();
-    let step_at = network_tables::read_again(tables.text, place.step_at, b'S', &mut step, width);
+    let step_at = network_tables::read_again(tables.text, place.step_at, b'S', &mut step[..width]);
     let plan_at = read_plan(whole, place.plan_at, &mut line);
     let volume = |j| network_tables::moved(&line, counts, j);
     let into = add_border(tables, half, Side::To, volume); // demand of the link that it enters

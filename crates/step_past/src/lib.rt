@@ -52,7 +52,12 @@ pub fn read_arrival(tables: &NetworkTables, i: usize, step: usize) -> Arrival
         ..Arrival::default()
     };
     for m in 0..step + 1 {
-        let next = network_tables::read_again(tables.text, arrival.place, b'H', &mut fields, width);
+        let next = network_tables::read_again(
+            tables.text,
+            arrival.place,
+            b'H',
+            &mut fields[..width],
+        );
         arrival = Arrival {
             step: m,
             start: arrival.stop,
@@ -122,7 +127,7 @@ pub fn load_past(tables: &NetworkTables, row: &mut [u32], arrivals: &mut [Arriva
     let mut fields = [0u32; PAST_SIZE];
     let mut place = tables.reading.past_at;
     for step in 0..counts.past {
-        place = network_tables::read_again(tables.text, place, b'H', &mut fields, width);
+        place = network_tables::read_again(tables.text, place, b'H', &mut fields[..width]);
         network_tables::add_numbers(&fields[1..width], row)?;
         let line = PastLine {
             step,
@@ -175,7 +180,7 @@ fn move_past(tables: &NetworkTables, at: usize, i: usize, to: usize, arrivals: &
     while arrivals[i].step < to {
         let step = arrivals[i].step + 1;
         let place = arrivals[i].place;
-        let next = network_tables::read_again(tables.text, place, b'H', &mut fields, width);
+        let next = network_tables::read_again(tables.text, place, b'H', &mut fields[..width]);
         let line = PastLine {
             step,
             fields: &fields,
