@@ -13,7 +13,7 @@ use Rattle.std.specs.Prelude.{Option, Some, None, Ok, Err}
 use Rattle.std.specs.Borrow.{Bor}
 
 -- ---- a line that is a record, by its read
-module _ {letter width : ℕ} {text : List ℕ} {at start : ℕ} {before : List ℕ} {r : (Option ℕ)} {after : List ℕ} (row : RowRead letter width text at start before r after)
+module _ {letter width : ℕ} {text : List ℕ} {at : ℕ} {before : List ℕ} {r : (Option ℕ)} {after : List ℕ} (row : RowRead letter width text at before r after)
     (line number item : ℕ) (valid : Bool) (s : Starts text at line) where
   pub line-malformed : r ≡ None → verdict (record_checks (lines text) line letter width number item valid) ≡ Err (refusal 1 (suc line) 0)
   unfolding verdict or_else checked
@@ -58,7 +58,7 @@ module _ {text : List ℕ} {b : Block} {at : ℕ} where
 
     -- of records
     module _ {letter width number : ℕ} {valid : ℕ → Bool} (records : Records (lines text) b letter width number valid) (h : i < b.count)
-        {start : ℕ} {before : List ℕ} {r : (Option ℕ)} {after : List ℕ} (row : RowRead letter width text at start before r after) where
+        {before : List ℕ} {r : (Option ℕ)} {after : List ℕ} (row : RowRead letter width text at before r after) where
       pub records-malformed : r ≡ None → verdict (block_checks b) ≡ Err (refusal 1 (suc (b.place i)) 0)
       records-malformed e =
           passed-stop inv.passed h (ap verdict (records.shape i) ∙ line-malformed row (b.place i) number (suc i) (valid i) inv.starts e)
@@ -93,17 +93,17 @@ module _ {T : Type 0} {Gives : List ℕ → T → Type 0} where
 
   -- ---- items that are judged as they are read
   module _ {text : List ℕ} {b : Block} {letter width first count size : ℕ} {post : Bor (List T) → ℕ → Verdict → Type 0} (judged : RowsJudged Gives (lines text) b letter width first count size post)
-      {at i : ℕ} {table : List T} (inv : TableTo Gives text b width size at i table) (h : i < count) {old : List ℕ} {r : Option ℕ} {after : List ℕ} (row : RowRead letter width text at 0 old r after) where
+      {at i : ℕ} {table : List T} (inv : TableTo Gives text b width size at i table) (h : i < count) {old : List ℕ} {r : Option ℕ} {after : List ℕ} (row : RowRead letter (length old) text at old r after) (fill : length old ≡ width) where
     below : i < b.count
     below = omega (arith, judged.counted)
 
     pub judged-malformed : r ≡ None → verdict (block_checks b) ≡ Err (refusal 1 (first + i) 0)
-    judged-malformed e = passed-stop inv.read.passed below (judged.forms i (row.malformed e (b.place i) inv.read.starts))
+    judged-malformed e = passed-stop inv.read.passed below (judged.forms i (rw fill at (row.malformed e (b.place i) inv.read.starts)))
 
-    module _ {next : ℕ} (e : r ≡ Some next) (fill : length old ≡ width) (room : i < size) {item : T} (gives : Gives after item)
+    module _ {next : ℕ} (e : r ≡ Some next) (room : i < size) {item : T} (gives : Gives after item)
         {shown : Bor (List T)} (shows : shown.now ≡ set table i item) {said : Verdict} (says : post shown i said) where
-      line : LineHeld letter width text (b.place i) next 0 after
-      line = row.held next e (b.place i) inv.read.starts
+      line : LineHeld letter width text (b.place i) next after
+      line = rw fill at (row.held next e (b.place i) inv.read.starts)
 
       made : Gives (fields (lines text) (b.place i) width) item
       made = rw (line-fields line (row.size ∙ fill)) at gives

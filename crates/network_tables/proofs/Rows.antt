@@ -1,5 +1,5 @@
 -- A line that is read into a row of a table.
-use Rattle.base_laws.proofs.Kit.{ℕ, ◌+◌, ◌-◌, ◌≤◌, ◌<◌, ◌≡◌, refl, sym, ap, ◌∙◌, Bool, List, ◌++◌, arith, length, take, drop, get_or, ext_get_or, length-append, length-drop, List·getD-append, length-take-le, get_or-drop, get_or-append-add}
+use Rattle.base_laws.proofs.Kit.{ℕ, ◌+◌, ◌-◌, ◌≤◌, ◌<◌, ◌≡◌, refl, sym, ap, ◌∙◌, Bool, List, ◌++◌, arith, length, take, drop, get_or, ext_get_or, length-append, length-drop, List·getD-append, length-take-le, get_or-drop, get_or-append-add, List·getD-eq-default}
 use Rattle.text_reader.specs.Lines.{lines, starts_as, number}
 use Rattle.text_reader.specs.Reading.{line_at, leading_as, record_at, Got}
 use Rattle.text_reader.proofs.Laws.{got-record, got-head, record-read, record-malformed, starts-line, starts-next}
@@ -12,67 +12,95 @@ use Rattle.network_tables.specs.Blocks.{fields}
 use Rattle.base_search.specs.declared.Refusal.{Refusal}
 use Rattle.std.specs.Prelude.{Option, Some, None, Err, ok_or, unwrap_or}
 
--- the first w numbers of a table, that come back as p
-module _ (table p : List ℕ) (w : ℕ) (h : w ≤ length table) (kept : length p ≡ length (take w table)) where
-  part-long : length (take w table) ≡ w
-  part-long = length-take-le w table h
+-- nothing stands behind a row
+behind : (before after : List ℕ) → length after ≡ length before → (k : ℕ) → length before ≤ k → get_or after k 0 ≡ get_or before k 0
+behind before after kept k h = List·getD-eq-default after 0 (omega arith) ∙ sym (List·getD-eq-default before 0 h)
 
-  part-here : (k : ℕ) → k < w → get_or (p ++ drop w table) (0 + k) 0 ≡ get_or p k 0
-  part-here k l =
-      let here : 0 + k ≡ k = omega arith in
-      ap (λ x. get_or (p ++ drop w table) x 0) here ∙ List·getD-append p (drop w table) 0 k (omega (arith, kept, part-long))
-
-  part-below : (k : ℕ) → k < 0 → get_or (p ++ drop w table) k 0 ≡ get_or table k 0
-  part-below k l = absurd (omega arith)
-
-  part-above : (k : ℕ) → 0 + w ≤ k → get_or (p ++ drop w table) k 0 ≡ get_or table k 0
-  part-above k l =
-      let e : k ≡ length p + (k - w) = omega (arith, kept, part-long) in
-      let f : w + (k - w) ≡ k = omega arith in
-      ap (λ x. get_or (p ++ drop w table) x 0) e
-      ∙ get_or-append-add p (drop w table) (k - w) 0
-      ∙ get_or-drop w table (k - w) 0
-      ∙ ap (λ x. get_or table x 0) f
-
-  part-size : length (p ++ drop w table) ≡ length table
-  part-size = let l = part-long in simp (length-append, length-drop) (omega (arith, kept))
-
-  -- a line that is read into them
-  pub row_read : (letter : ℕ) (text : List ℕ) (at : ℕ) (r : Option ℕ)
-      → Got (record_at letter (length (take w table)) text at) (leading_as letter (length (take w table)) (line_at text at)) (take w table) r p
-      → RowRead letter w text at 0 table r (p ++ drop w table)
+-- a line that is read into a row, which its numbers fill
+module _ {letter : ℕ} {text : List ℕ} {at : ℕ} {before after : List ℕ} (kept : length after ≡ length before) where
+  pub row_read : {r : Option ℕ} → Got (record_at letter (length before) text at) (leading_as letter (length before) (line_at text at)) before r after
+      → RowRead letter (length before) text at before r after
   unfolding is_form entry
-  row_read letter text at r g =
-      let told : r ≡ record_at letter w text at = g.told ∙ ap (λ n. record_at letter n text at) part-long in
+  row_read {r} g =
       record {
-        size = part-size;
-        below = part-below;
-        above = part-above;
-        malformed = λ e i at_i. rw (starts-line text at i at_i) at (record-malformed letter w text at (sym told ∙ e));
+        size = kept;
+        above = behind before after kept;
+        malformed = λ e i at_i. rw (starts-line text at i at_i) at (record-malformed letter (length before) text at (sym g.told ∙ e));
         held = λ next e i at_i.
-            let numbers = got-record letter text at (take w table) p r next g e in
-            let read = sym told ∙ e in
+            let numbers = got-record letter text at before after r next g e in
+            let read = sym g.told ∙ e in
             record {
-              form = rw (starts-line text at i at_i) at (record-read letter w text at next read).formed;
-              numbers = λ k l. part-here k l ∙ numbers.each k (omega (arith, part-long)) ∙ ap (λ line. number line k) (starts-line text at i at_i);
-              starts = starts-next text at i at_i letter w next read;
+              form = rw (starts-line text at i at_i) at (record-read letter (length before) text at next read).formed;
+              numbers = λ k l. numbers.each k l ∙ ap (λ line. number line k) (starts-line text at i at_i);
+              starts = starts-next text at i at_i letter (length before) next read;
             };
       }
 
-  -- the beginning of a line that is read into them
-  pub head_read : (letter : ℕ) (text : List ℕ) (at : ℕ) (r : Bool)
-      → Got (starts_as letter (length (take w table)) (line_at text at)) (leading_as letter (length (take w table)) (line_at text at)) (take w table) r p
-      → HeadRead letter w text at 0 table r (p ++ drop w table)
+  -- the beginning of a line
+  pub head_read : {r : Bool} → Got (starts_as letter (length before) (line_at text at)) (leading_as letter (length before) (line_at text at)) before r after
+      → HeadRead letter (length before) text at before r after
   unfolding entry
-  head_read letter text at r g =
+  head_read {r} g =
       record {
-        size = part-size;
-        below = part-below;
-        above = part-above;
-        told = λ i at_i. g.told ∙ rw (part-long, starts-line text at i at_i);
-        numbers = λ e i at_i k l.
-            let numbers = got-head letter text at (take w table) p r g e in
-            part-here k l ∙ numbers.each k (omega (arith, part-long)) ∙ ap (λ line. number line k) (starts-line text at i at_i);
+        size = kept;
+        above = behind before after kept;
+        told = λ i at_i. g.told ∙ rw (starts-line text at i at_i);
+        numbers = λ e i at_i k l. (got-head letter text at before after r g e).each k l ∙ ap (λ line. number line k) (starts-line text at i at_i);
+      }
+
+-- the first numbers of a row, that come back as `part`
+module _ (row part : List ℕ) (width : ℕ) (h : width ≤ length row) (kept : length part ≡ length (take width row)) where
+  part-long : length part ≡ width
+  part-long = kept ∙ length-take-le width row h
+
+  joined-here : (k : ℕ) → k < width → get_or (part ++ drop width row) k 0 ≡ get_or part k 0
+  joined-here k l = List·getD-append part (drop width row) 0 k (omega (arith, part-long))
+
+  joined-above : (k : ℕ) → width ≤ k → get_or (part ++ drop width row) k 0 ≡ get_or row k 0
+  joined-above k l =
+      let e : k ≡ length part + (k - width) = omega (arith, part-long) in
+      let f : width + (k - width) ≡ k = omega arith in
+      ap (λ x. get_or (part ++ drop width row) x 0) e
+      ∙ get_or-append-add part (drop width row) (k - width) 0
+      ∙ get_or-drop width row (k - width) 0
+      ∙ ap (λ x. get_or row x 0) f
+
+  joined-size : length (part ++ drop width row) ≡ length row
+  joined-size = let l = part-long in simp (length-append, length-drop) (omega arith)
+
+  joined-held : {letter : ℕ} {text : List ℕ} {i next : ℕ} → LineHeld letter (length (take width row)) text i next part → LineHeld letter width text i next (part ++ drop width row)
+  joined-held {letter} {text} {i} held =
+      record {
+        form = rw (length-take-le width row h) at held.form;
+        numbers = λ k l. joined-here k l ∙ held.numbers k (omega (arith, kept, part-long));
+        starts = held.starts;
+      }
+
+-- a line that is read into the first numbers of a row is read into the row
+module _ {letter : ℕ} {text : List ℕ} {at : ℕ} {row part : List ℕ} {width : ℕ} (h : width ≤ length row) where
+  pub row_joined : {r : Option ℕ} → RowRead letter (length (take width row)) text at (take width row) r part → RowRead letter width text at row r (part ++ drop width row)
+  row_joined read =
+      record {
+        size = joined-size row part width h read.size;
+        above = joined-above row part width h read.size;
+        malformed = λ e i s. rw (length-take-le width row h) at (read.malformed e i s);
+        held = λ next e i s. joined-held row part width h read.size (read.held next e i s);
+      }
+
+  pub again_joined : {next : ℕ} → ReadAgain letter (length (take width row)) text at (take width row) next part → ReadAgain letter width text at row next (part ++ drop width row)
+  again_joined read =
+      record {
+        size = joined-size row part width h read.size;
+        held = λ i s f. joined-held row part width h read.size (read.held i s (rw (length-take-le width row h) f));
+      }
+
+  pub head_joined : {r : Bool} → HeadRead letter (length (take width row)) text at (take width row) r part → HeadRead letter width text at row r (part ++ drop width row)
+  head_joined read =
+      record {
+        size = joined-size row part width h read.size;
+        above = joined-above row part width h read.size;
+        told = λ i s. rw (length-take-le width row h) at (read.told i s);
+        numbers = λ e i s k l. joined-here row part width h read.size k l ∙ read.numbers e i s k (omega (arith, length-take-le width row h));
       }
 
 -- a line that is not read is refused
@@ -81,12 +109,12 @@ row-refused None h = (refl, cc)
 row-refused (Some next) h = let z : ◌≡◌ {A = ℕ} 0 1 = cc in absurd (omega arith)
 
 -- a line that has passed, read again: its answer where none is for a malformed line, which it is not
-pub again : {letter width : ℕ} {text : List ℕ} {at : ℕ} {before after : List ℕ} (r : Option ℕ) → RowRead letter width text at 0 before r after → ReadAgain letter width text at before (unwrap_or r at) after
+pub again : {letter width : ℕ} {text : List ℕ} {at : ℕ} {before after : List ℕ} (r : Option ℕ) → RowRead letter width text at before r after → ReadAgain letter width text at before (unwrap_or r at) after
 again (Some next) row = record { size = row.size; held = λ i s f. row.held next refl i s }
 again None row = record { size = row.size; held = λ i s f. let m = row.malformed refl i s in let z : ◌≡◌ {A = ℕ} 0 1 = cc in absurd (omega arith) }
 
 -- an array of so many numbers, when a line is read into it
-pub line-fields : {letter width : ℕ} {text : List ℕ} {i next : ℕ} {after : List ℕ} → LineHeld letter width text i next 0 after → length after ≡ width → after ≡ fields (lines text) i width
+pub line-fields : {letter width : ℕ} {text : List ℕ} {i next : ℕ} {after : List ℕ} → LineHeld letter width text i next after → length after ≡ width → after ≡ fields (lines text) i width
 line-fields {width = width} {text = text} {i = i} {after = after} held size =
     let f : ℕ → ℕ = entry (lines text) i in
-    ext_get_or 0 after (list width f) (size ∙ sym (length-list f width)) (λ k l. let here : k ≡ 0 + k = omega arith in ap (λ n. get_or after n 0) here ∙ held.numbers k (omega (arith, size)) ∙ sym (get-list f 0 width k (omega (arith, size))))
+    ext_get_or 0 after (list width f) (size ∙ sym (length-list f width)) (λ k l. held.numbers k (omega (arith, size)) ∙ sym (get-list f 0 width k (omega (arith, size))))

@@ -5,9 +5,6 @@ use Rattle.base_search.proofs.Laws.{passed_on}
 use Rattle.network_tables.proofs.Blocks.{table-begin, judged-malformed, judged-broken, judged-next, rows-refused}
 use Rattle.network_tables.proofs.read_rows.Goals as goal
 
-pub whole_as_slice-read_row : goal.whole_as_slice-read_row
-whole_as_slice-read_row g c = omega (arith, c.requires.fields)
-
 pub loop-k-init : goal.loop-k-init
 loop-k-init g c = (refl, length-replicate g.row.W 0, λ b judged s. table-begin s refl)
 
@@ -15,16 +12,16 @@ pub returns-in_default : goal.returns-in_default
 returns-in_default g c = λ b judged s.
     let none : c.read_row.result ≡ None = search (rules) in
     rw c.refusal.ensures
-    (rows-refused {table = c.loop-k.table} (judged-malformed judged (c.loop-k.invariant.2 b judged s) c.loop-k-test.true c.read_row.ensures none))
+    (rows-refused {table = c.loop-k.table} (judged-malformed judged (c.loop-k.invariant.2 b judged s) c.loop-k-test.true c.read_row.ensures c.loop-k.invariant.1 none))
 
 pub returns-in_err-judge : goal.returns-in_err-judge
 returns-in_err-judge g c = λ b judged s.
     rw (passed_on _ _ c.from_residual.ensures.1)
-    (rows-refused (judged-broken judged (c.loop-k.invariant.2 b judged s) c.loop-k-test.true c.read_row.ensures c.in-Some.is c.loop-k.invariant.1 (omega (arith, c.loop-k-test.true, c.requires.room)) c.from.ensures refl c.judge.ensures c.in_err-judge.was))
+    (rows-refused (judged-broken judged (c.loop-k.invariant.2 b judged s) c.loop-k-test.true c.read_row.ensures c.loop-k.invariant.1 c.in-Some.is (omega (arith, c.loop-k-test.true, c.requires.room)) c.from.ensures refl c.judge.ensures c.in_err-judge.was))
 
 pub loop-k-preserved : goal.loop-k-preserved
 loop-k-preserved g c = (
   length-set c.loop-k.table c.loop-k.k c.from.result ∙ c.loop-k.invariant.0,
   c.read_row.ensures.size ∙ c.loop-k.invariant.1,
-  λ b judged s. judged-next judged (c.loop-k.invariant.2 b judged s) c.loop-k-test.true c.read_row.ensures c.in-Some.is c.loop-k.invariant.1 (omega (arith, c.loop-k-test.true, c.requires.room)) c.from.ensures refl c.judge.ensures c.in_ok-judge.was,
+  λ b judged s. judged-next judged (c.loop-k.invariant.2 b judged s) c.loop-k-test.true c.read_row.ensures c.loop-k.invariant.1 c.in-Some.is (omega (arith, c.loop-k-test.true, c.requires.room)) c.from.ensures refl c.judge.ensures c.in_ok-judge.was,
 )
