@@ -18,14 +18,14 @@ use Rattle.network_tables.specs.Fields.{count_fields, counts_by}
 use Rattle.network_signals.specs.Counts.{valid_counts_in, CountsHeld}
 use Rattle.std.specs.Prelude.{Option, Some, None, Ok, Err}
 
-module _ {text old fields : List ℕ} {r : (Option ℕ)} (row : RowRead letter_n count_fields text 0 0 old r fields) where
+module _ {text old fields : List ℕ} {r : (Option ℕ)} (row : RowRead letter_n count_fields text 0 old r fields) where
   pub counts-malformed : r ≡ None → {q : Refusal} → q ≡ refusal 1 1 0 → Judged (count_checks (lines text)) (CountsHeld text) (Err q)
   unfolding count_checks
   counts-malformed e t = rw t (judged-refused (line-malformed row 0 2 0 (valid_counts (lines text)) (starts_first text) e))
 
   module _ {next : ℕ} (e : r ≡ Some next) {counts : Counts} (c : counts ≡ counts_by (λ k. get_or fields k 0)) {v : Bool} (told : v ≡ valid_counts_in counts) where
     number_at : (k : ℕ) → k < count_fields → get_or fields k 0 ≡ entry (lines text) 0 k
-    number_at k h = let z : k ≡ 0 + k = omega arith in ap (λ x. get_or fields x 0) z ∙ (row.held next e 0 (starts_first text)).numbers k h
+    number_at k h = (row.held next e 0 (starts_first text)).numbers k h
 
     judged : v ≡ valid_counts (lines text)
     unfolding valid_counts_in valid_counts link_count signal_count movement_count step_count tram_count past_count

@@ -1,5 +1,5 @@
 -- The calls and the returns of the function that reads one `G` line, each in the form of a need.
-use Rattle.base_laws.proofs.Kit.{ℕ, suc, ◌+◌, ◌*◌, ◌≤◌, ◌≡◌, sym, ap, ◌∙◌, Bool, true, false, List, dec_le, add-one, arith, leb-true, leb, length, get_or, set, replicate, length-replicate, get_or-replicate, List·getD-eq-default}
+use Rattle.base_laws.proofs.Kit.{ℕ, suc, ◌+◌, ◌*◌, ◌≤◌, ◌≡◌, sym, ap, ◌∙◌, Bool, true, false, List, ◌++◌, dec_le, add-one, arith, leb-true, leb, length, take, drop, length-take-le, get_or, set, replicate, length-replicate, get_or-replicate, List·getD-eq-default}
 use Rattle.base_search.specs.declared.Refusal.{Refusal}
 use Rattle.base_search.specs.Checks.{refusal, or_else, checked, verdict}
 use Rattle.text_reader.specs.Lines.{Line, lines, no_line, starts_as}
@@ -13,6 +13,7 @@ use Rattle.base_laws.proofs.Tests.{and_right}
 use Rattle.network_tables.specs.declared.Reading.{Reading}
 use Rattle.network_tables.specs.Places.{signal_line_in}
 use Rattle.network_tables.specs.Rows.{RowRead, HeadRead}
+use Rattle.network_tables.proofs.Rows.{row_joined, head_joined}
 use Rattle.model.specs.Signals.{signal_fields, signal_by}
 use Rattle.network_tables.specs.Tables.{Judged, moved_to}
 use Rattle.network_tables.proofs.Places.{signal-line-is}
@@ -50,7 +51,16 @@ module _ (network : List Line) (r : ℕ) where
 
 -- ---- the turns of `read_signal`
 module _ {text : List ℕ} {reading : Reading} {r : ℕ} {signals : List Signal} (asked : SignalAsked text reading r signals) {old : List ℕ} (clear : old ≡ replicate signal_fields 0)
-    {head : List ℕ} {flag : Bool} (read : HeadRead letter_g head_fields text reading.next 0 old flag head) {line : ℕ} (l : line ≡ signal_line_in reading.counts r) where
+    {part : List ℕ} {flag : Bool} (head-part : HeadRead letter_g (length (take head_fields old)) text reading.next (take head_fields old) flag part) {line : ℕ} (l : line ≡ signal_line_in reading.counts r) where
+  abbrev head : List ℕ
+  head = part ++ drop head_fields old
+
+  old-size : length old ≡ signal_fields
+  old-size = ap length clear ∙ length-replicate {A = ℕ} signal_fields 0
+
+  read : HeadRead letter_g head_fields text reading.next old flag head
+  read = head_joined (omega (arith, old-size)) head-part
+
   refused : (number item : ℕ) {after : List Signal} {q : Refusal} → q ≡ refusal number (line + 1) item → verdict (signal_checks (lines text) r) ≡ Err (refusal number (suc (signal_line (lines text) r)) item)
       → Judged (signal_checks (lines text) r) (SignalHeld text r signals after) (Err q)
   refused number item t e =
@@ -85,13 +95,23 @@ module _ {text : List ℕ} {reading : Reading} {r : ℕ} {signals : List Signal}
       few-valid = leb-true phases 8 (and_right (leb 2 phases) (leb phases 8) (sym v ∙ m))
 
       head-size : length head ≡ signal_fields
-      head-size = read.size ∙ ap length clear ∙ length-replicate {A = ℕ} signal_fields 0
+      head-size = read.size ∙ old-size
 
       -- the whole line has at most 22 numbers
       pub whole-fits : {width : ℕ} → width ≡ head_fields + 2 * phases → width ≤ length head
       whole-fits w = omega (arith, few-valid, head-size)
 
-      module _ {width : ℕ} (w : width ≡ head_fields + 2 * phases) {fields : List ℕ} {result : (Option ℕ)} (row : RowRead letter_g width text reading.next 0 head result fields) where
+      pub whole-long : {width : ℕ} → width ≡ head_fields + 2 * phases → width ≡ length (take width head)
+      whole-long {width} w = sym (length-take-le width head (whole-fits w))
+
+      module _ {width : ℕ} (w : width ≡ head_fields + 2 * phases) {row-part : List ℕ} {result : (Option ℕ)}
+          (read-part : RowRead letter_g (length (take width head)) text reading.next (take width head) result row-part) where
+        abbrev fields : List ℕ
+        fields = row-part ++ drop width head
+
+        row : RowRead letter_g width text reading.next head result fields
+        row = row_joined (whole-fits w) read-part
+
         -- the rest of its form
         pub stop-form : result ≡ None → {after : List Signal} {q : Refusal} → q ≡ refusal 1 (line + 1) 0 → Judged (signal_checks (lines text) r) (SignalHeld text r signals after) (Err q)
         stop-form e t =
@@ -103,7 +123,7 @@ module _ {text : List ℕ} {reading : Reading} {r : ℕ} {signals : List Signal}
 
           zero-past : (k : ℕ) → get_or old k 0 ≡ 0
           zero-past k = elim (dec_le signal_fields k) [
-            | yes h ↦ List·getD-eq-default old 0 (omega (arith, ap length clear, length-replicate {A = ℕ} signal_fields 0))
+            | yes h ↦ List·getD-eq-default old 0 (omega (arith, old-size))
             | no h ↦ ap (λ l. get_or l k 0) clear ∙ get_or-replicate {A = ℕ} signal_fields k 0 0 (omega arith)
           ]
 
@@ -112,11 +132,10 @@ module _ {text : List ℕ} {reading : Reading} {r : ℕ} {signals : List Signal}
           unfolding entry is_form
           number_at k = elim (dec_le width k) [
             | yes h ↦
-                row.above k (omega arith) ∙ read.above k (omega arith) ∙ zero-past k
+                row.above k h ∙ read.above k (omega arith) ∙ zero-past k
                 ∙ sym (record-past letter_g width (get_or (lines text) (signal_line (lines text) r) no_line) form k h)
             | no h ↦
-                let z : k ≡ 0 + k = omega arith in
-                ap (λ x. get_or fields x 0) z ∙ (row.held next e (signal_line (lines text) r) asked.starts).numbers k (omega arith)
+                (row.held next e (signal_line (lines text) r) asked.starts).numbers k (omega arith)
           ]
 
           few : (signal (lines text) r).phases ≤ 8

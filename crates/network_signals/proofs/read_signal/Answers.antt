@@ -1,7 +1,7 @@
 -- `network_signals::read_signal` meets its contract.
 use Rattle.std.proofs.Common.{refl, ap, rules}
 use Rattle.model.specs.declared.Signal.{Signal}
-use Rattle.network_signals.proofs.Lines.{stop-head, stop-phases, few-valid, whole-fits, stop-form, few-phases, stop-values, pass-line}
+use Rattle.network_signals.proofs.Lines.{stop-head, stop-phases, few-valid, whole-fits, whole-long, stop-form, few-phases, stop-values, pass-line}
 use Rattle.network_signals.proofs.read_signal.Goals as goal
 
 pub returns-then-not-read_head : goal.returns-then-not-read_head
@@ -18,10 +18,15 @@ width-width-requires c =
     let phases = ap (λ (s : Signal). s.phases) c.from-head.ensures in
     few-valid c.requires refl c.read_head.ensures c.signal_line-line.ensures c.if-not-read_head.false phases c.valid_phases.ensures c.if-not-valid_phases.false
 
-pub read_row-requires : goal.read_row-requires
-read_row-requires c =
+pub slice_bounds-fields-end-2 : goal.slice_bounds-fields-end-2
+slice_bounds-fields-end-2 c =
     let phases = ap (λ (s : Signal). s.phases) c.from-head.ensures in
     whole-fits c.requires refl c.read_head.ensures c.signal_line-line.ensures c.if-not-read_head.false phases c.valid_phases.ensures c.if-not-valid_phases.false c.width-width.ensures
+
+pub slice_bounds-read_row-end : goal.slice_bounds-read_row-end
+slice_bounds-read_row-end c =
+    let phases = ap (λ (s : Signal). s.phases) c.from-head.ensures in
+    whole-long c.requires refl c.read_head.ensures c.signal_line-line.ensures c.if-not-read_head.false phases c.valid_phases.ensures c.if-not-valid_phases.false c.width-width.ensures
 
 pub returns-in_default : goal.returns-in_default
 returns-in_default c =
