@@ -1,5 +1,5 @@
 -- The `S` lines as they are read: one line, and the turns of the loop over all of them.
-use Rattle.base_laws.proofs.Kit.{ℕ, suc, ◌+◌, ◌*◌, ◌-◌, ◌≤◌, ◌<◌, ◌≡◌, refl, sym, ap, ◌∙◌, Bool, true, false, not, List, add-one, arith, not-true, not-false, length, take, drop, get_or}
+use Rattle.base_laws.proofs.Kit.{ℕ, suc, ◌+◌, ◌*◌, ◌-◌, ◌≤◌, ◌<◌, ◌≡◌, refl, sym, ap, ◌∙◌, Bool, true, false, not, List, ◌++◌, add-one, arith, not-true, not-false, length, take, drop, get_or}
 use Rattle.base_search.specs.declared.Refusal.{Refusal}
 use Rattle.base_search.specs.Checks.{refusal}
 use Rattle.text_reader.specs.Lines.{Line, lines}
@@ -13,6 +13,7 @@ use Rattle.network_tables.specs.declared.Reading.{Reading}
 use Rattle.network_tables.specs.Places.{step_line_in}
 use Rattle.network_tables.specs.Fields.{step_size, length_in, demand_in}
 use Rattle.network_tables.specs.Rows.{LineHeld, ReadAgain, RowRead}
+use Rattle.network_tables.proofs.Rows.{row_joined}
 use Rattle.network_tables.specs.Blocks.{block_checks, ReadTo, Records, step_block}
 use Rattle.network_tables.specs.Tables.{Judged, StepNumbers}
 use Rattle.network_tables.proofs.Tables.{step-length-at, demand-at}
@@ -31,15 +32,15 @@ step-line-suc : (network : List Line) (n : ℕ) → step_line network (suc n) �
 unfolding step_line timeline_line on_timeline
 step-line-suc network n = omega arith
 
-held-numbers : {text : List ℕ} {n next links : ℕ} {step : List ℕ} → LineHeld letter_s (1 + links) text (step_line (lines text) n) next 0 step
+held-numbers : {text : List ℕ} {n next links : ℕ} {step : List ℕ} → LineHeld letter_s (1 + links) text (step_line (lines text) n) next step
     → links ≡ link_count (lines text) → length step ≡ step_size → StepNumbers (lines text) n step
 held-numbers {step = step} h e size =
-    record { size = size; holds = λ k l. let z : k ≡ 0 + k = omega arith in ap (λ x. get_or step x 0) z ∙ h.numbers k (omega arith) }
+    record { size = size; holds = λ k l. h.numbers k (omega arith) }
 
 -- an `S` line that has passed is read again: its numbers are those of step n, and the next line is that of the step after
 module _ {text : List ℕ} {at links : ℕ} {old : List ℕ} {next : ℕ} {step : List ℕ} (read : ReadAgain letter_s (1 + links) text at old next step) (n : ℕ) (s : Starts text at (step_line (lines text) n))
     (e : links ≡ link_count (lines text)) (f : is_form (lines text) (step_line (lines text) n) letter_s (1 + link_count (lines text)) ≡ true) where
-  held : LineHeld letter_s (1 + links) text (step_line (lines text) n) next 0 step
+  held : LineHeld letter_s (1 + links) text (step_line (lines text) n) next step
   held = read.held (step_line (lines text) n) s (rw e f)
 
   pub again-numbers : length old ≡ step_size → StepNumbers (lines text) n step
@@ -105,12 +106,20 @@ module _ {text : List ℕ} {reading : Reading} {times₀ demands₀ : List ℕ} 
           demanded = λ i l. inv.demanded i l ∙ ap (λ k. sum k (λ n. demand (lines text) n i)) all;
         })
 
-    module _ (h : n < reading.counts.steps) {r : (Option ℕ)} {after : List ℕ} {width : ℕ} (w : width ≡ 1 + reading.counts.links) (row : RowRead letter_s width text at 0 step r after) where
+    module _ (h : n < reading.counts.steps) {r : (Option ℕ)} {part : List ℕ} {width : ℕ} (w : width ≡ 1 + reading.counts.links)
+        (read : RowRead letter_s (length (take width step)) text at (take width step) r part) where
+      -- the row, whose first numbers were read
+      abbrev after : List ℕ
+      after = part ++ drop width step
+
+      row : RowRead letter_s width text at step r after
+      row = row_joined (omega (arith, w, inv.step_room, asked.reached.counted.few.links)) read
+
       below : n < step_count (lines text)
       below = omega (arith, asked.reached.counted.steps)
 
-      own : RowRead letter_s (1 + link_count (lines text)) text at 0 step r after
-      own = let wide : width ≡ 1 + link_count (lines text) = omega (arith, w, asked.reached.counted.links) in rw wide at row
+      own : RowRead letter_s (1 + link_count (lines text)) text at step r after
+      own = let wide : width ≡ 1 + link_count (lines text) = omega (arith, w, asked.reached.counted.links) in rw (← wide) row
 
       told_line : {line : ℕ} → line ≡ step_line_in reading.counts n → line + 1 ≡ suc (step_line (lines text) n)
       told_line l = omega (arith, step-line-is asked.reached.counted n)
