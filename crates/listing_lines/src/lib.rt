@@ -49,27 +49,13 @@ fn digits_of(bytes: &[u8], most: usize) -> Option<u64>
     Some(value)
 }
 
-// Ten to the power of what six digits lack. By `pow` the whole call took 2 % more instructions.
-fn scale(count: usize) -> u64
-    ensures { result ≡ 10 ^ (6 - count) }
-{
-    match count {
-        0 => 1_000_000,
-        1 => 100_000,
-        2 => 10_000,
-        3 => 1_000,
-        4 => 100,
-        5 => 10,
-        _ => 1,
-    }
-}
-
 // The digits behind a point, one to six, in millionths.
 fn fraction_of(bytes: &[u8]) -> Option<u64>
     ensures value { result ≡ fraction_of bytes.now }
     ensures small { IfSome result (λ v. v < 10 ^ 6) }
 {
-    Some(digits_of(bytes, 6)? * scale(bytes.len()))
+    let value = digits_of(bytes, 6)?;
+    Some(value * 10u64.pow((6 - bytes.len()) as u32))
 }
 
 // A decimal in millionths: one to ten digits, then optionally a point and one to six more.

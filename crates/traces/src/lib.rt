@@ -1,7 +1,7 @@
 // Time-distance traces: vehicles along a street, in metres as 64-bit floats. `step_vehicles` moves them by one step. Each sum and difference is rounded once.
 #![tactic(auto)]
 
-ghost use Rattle.std.specs.Prelude.{◌≡◌, length, Float};
+ghost use Rattle.std.specs.Prelude.{◌≡◌, length};
 ghost use Rattle.std.specs.List.{list_all};
 ghost use Rattle.base_search.specs.Checks.{checked};
 ghost use Rattle.base_laws.specs.Indexed.{list};
@@ -26,8 +26,7 @@ pub struct Vehicle {
     pub advance: f64,
 }
 
-// What may stop a vehicle: nothing, the leader's last place (one spacing behind it), or a red line at or ahead of it. T-13 names these three; a red line as
-// one stands in definitions alone, since `cut_to_line` tests whether the line is ahead and cuts to it at once.
+// What may stop a vehicle: nothing, the leader's last place (one spacing behind it), or a red line at or ahead of it.
 #[derive(Clone, Copy)]
 pub enum Obstacle {
     OpenRoad,
@@ -56,15 +55,15 @@ fn cut_to(obstacle: Obstacle, spacing: f64, target: f64) -> f64
     }
 }
 
-// A target, cut to a red line as an obstacle: one behind the vehicle is none. Half the instructions of `cut_to` at it.
-#[tactic(auto, unfolding(crate::specs::Step::cut_to, crate::specs::Step::line_for, crate::specs::Step::nearer))]
-fn cut_to_line(place: f64, line: f64, target: f64) -> f64
-    ensures { (spacing : Float) → result ≡ cut_to spacing (line_for place line) target }
+// A red line as an obstacle: one behind the vehicle is none.
+#[tactic(auto, unfolding(crate::specs::Step::line_for))]
+fn line_for(place: f64, line: f64) -> Obstacle
+    ensures { result ≡ line_for place line }
 {
-    if line < target && place <= line {
-        line
+    if place <= line {
+        Obstacle::RedLine(line)
     } else {
-        target
+        Obstacle::OpenRoad
     }
 }
 
@@ -75,9 +74,9 @@ fn move_one(vehicle: Vehicle, ahead: Obstacle, red_lines: &[f64], spacing: f64) 
 {
     let place = vehicle.place;
     let start = cut_to(ahead, spacing, place + vehicle.advance);
-    let target = red_lines
-        .iter()
-        .fold(start, |target, line| cut_to_line(place, *line, target));
+    let target = red_lines.iter().fold(start, |target, line| {
+        cut_to(line_for(place, *line), spacing, target)
+    });
     if place < target { target } else { place }
 }
 

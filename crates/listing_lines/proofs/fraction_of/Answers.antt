@@ -10,4 +10,4 @@ scaled_small v n l h =
     omega (arith, e, mul-le-mul_right (10 ^ (6 - n)) l, one-le-pow (6 - n) 10 (omega arith))
 
 pub returns-clause-small : goal.returns-clause-small
-returns-clause-small c = rw c.scale.ensures (scaled_small _ _ (search rules) (search rules))
+returns-clause-small c = rw c.pow.ensures (scaled_small _ _ (search rules) (search rules))
