@@ -169,7 +169,10 @@ module _ {tables : NetworkTables} {ledger : List ℕ} {n i step : ℕ} (given : 
     stands : standing_in tables.links.now i ≡ standing netw i
     stands = standing-at tab.link-table i own.link
 
-    pub no-past : tables.reading.counts.past ≤ step → EnteredOver netw ledger n i (record { step = step; start = standing_in tables.links.now i; stop = standing_in tables.links.now i; place = 0 })
+    abbrev first : Arrival
+    first = record { step = step; start = standing_in tables.links.now i; stop = standing_in tables.links.now i; place = tables.reading.past_at }
+
+    pub no-past : tables.reading.counts.past ≤ step → EnteredOver netw ledger n i first
     no-past l =
         record {
           by-start = λ e. stands;
@@ -182,16 +185,17 @@ module _ {tables : NetworkTables} {ledger : List ℕ} {n i step : ℕ} (given : 
     start_is = omega arith
 
     module _ (l : step < tables.reading.counts.past) where
-      pub read_asked : ReadAsked tables i step
+      pub read_asked : ReadAsked tables.text.now tables.reading.counts.links i 0 (step + 1) first
       read_asked =
           record {
-            counted = tab.counted;
-            starts = tab.past-start;
+            counted = tab.counted.links;
+            few = tab.counted.few.links;
+            link = omega (arith, own.link, tab.counted.links);
+            onward = omega arith;
+            within = omega (arith, tab.counted.past);
             forms = past-form netw tab.holds;
-            stands = stands ∙ sym start_is;
-            link = own.link;
-            past = omega (arith, tab.counted.past);
             fits = λ m q. past_fits netw tab.holds i own.link m (omega (arith, tab.counted.past));
+            curve-from = record { starts = tab.past-start; began = λ m q. absurd (omega arith); ended = stands ∙ sym start_is };
           }
 
       pub past-told : {arrival : Arrival} → CurveTo tables.text.now i (step + 1) arrival → EnteredOver netw ledger n i arrival

@@ -34,15 +34,16 @@ fn entered_over(tables: &NetworkTables, ledger: &[u32], n: usize, i: usize, step
     let times = tables.times;
     let link = tables.links[i];
     if times[past + n] - times[past] < link.travel_time {
-        if step < past {
-            return step_past::read_arrival(tables, i, step);
-        }
-        return Arrival {
+        let first = Arrival {
             step,
             start: link.standing,
             stop: link.standing,
-            place: 0,
+            place: tables.reading.past_at,
         };
+        if past <= step {
+            return first;
+        }
+        return step_past::read_on(tables.text, counts.links, i, 0, step + 1, first);
     }
     let row = step - past;
     Arrival {

@@ -7,8 +7,7 @@ use Rattle.text_reader.specs.Reading.{Starts}
 use Rattle.model.specs.Network.{link_count, past_count, timeline_line, past_entries}
 use Rattle.model.specs.Table.{letter_h}
 use Rattle.model.proofs.Timeline.{past-inflow, timeline-entered-suc}
-use Rattle.network_tables.specs.declared.NetworkTables.{NetworkTables}
-use Rattle.network_tables.specs.Fields.{past_size, standing_in}
+use Rattle.network_tables.specs.Fields.{past_size}
 use Rattle.network_tables.specs.Rows.{LineHeld, ReadAgain}
 use Rattle.network_tables.specs.Tables.{PastNumbers}
 use Rattle.network_tables.proofs.Tables.{past-entries-at}
@@ -37,39 +36,35 @@ past-again {text} read e forms m h starts = let again = rw e at read in again.he
 pub entered-past : (network : List Line) (m i : ℕ) → m < past_count network → past_entered network (suc m) i ≡ past_entered network m i + past_entries network m i
 entered-past network m i h = timeline-entered-suc network [] m i ∙ ap (λ x. past_entered network m i + x) (past-inflow network [] m i h)
 
--- ---- the turns of `read_arrival`
-pub record ReadTo (text : List ℕ) (i step : ℕ) (fields : List ℕ) (arrival : Arrival) (m : ℕ) : Type 0 where
-  pub within : m ≤ step + 1
+-- ---- the turns of `read_on`
+pub record ReadTo (text : List ℕ) (i to : ℕ) (fields : List ℕ) (arrival : Arrival) (m : ℕ) : Type 0 where
+  pub onward : m ≤ to
   pub size : length fields ≡ past_size
   pub curve-to : CurveTo text i m arrival
 
-module _ {tables : NetworkTables} {i step : ℕ} (asked : ReadAsked tables i step) where
-  abbrev network : List Line
-  network = lines tables.text.now
+module _ {text : List ℕ} {links i from to : ℕ} {first : Arrival} (asked : ReadAsked text links i from to first) where
+  pub read-begin : {fields : List ℕ} → length fields ≡ past_size → ReadTo text i to fields first from
+  read-begin size = record { onward = asked.onward; size = size; curve-to = asked.curve-from }
 
-  pub read-begin : {fields : List ℕ} → length fields ≡ past_size
-      → ReadTo tables.text.now i step fields (record { step = 0; start = standing_in tables.links.now i; stop = standing_in tables.links.now i; place = tables.reading.past_at }) 0
-  read-begin size = record { within = omega arith; size = size; curve-to = record { starts = asked.starts; began = λ m q. absurd (omega arith); ended = asked.stands } }
+  module _ {fields : List ℕ} {arrival : Arrival} {m : ℕ} (inv : ReadTo text i to fields arrival m) where
+    module _ (h : m < to) {next : ℕ} {after : List ℕ} (read : ReadAgain letter_h (1 + 2 * links) text arrival.place fields next after) where
+      below : m < past_count (lines text)
+      below = omega (arith, asked.within)
 
-  module _ {fields : List ℕ} {arrival : Arrival} {m : ℕ} (inv : ReadTo tables.text.now i step fields arrival m) where
-    module _ (h : m < step + 1) {width : ℕ} (w : width ≡ 1 + 2 * tables.reading.counts.links) {next : ℕ} {after : List ℕ} (read : ReadAgain letter_h width tables.text.now arrival.place fields next after) where
-      below : m < past_count network
-      below = omega (arith, asked.past)
+      line : LineHeld letter_h (1 + 2 * link_count (lines text)) text (timeline_line (lines text) m) next 0 after
+      line = past-again read (omega (arith, asked.counted)) asked.forms m below inv.curve-to.starts
 
-      line : LineHeld letter_h (1 + 2 * link_count network) tables.text.now (timeline_line network m) next 0 after
-      line = past-again read (omega (arith, w, asked.counted.links)) asked.forms m below inv.curve-to.starts
-
-      entered-next : arrival.stop + get_or after (1 + 2 * i) 0 ≡ past_entered network (suc m) i
+      entered-next : arrival.stop + get_or after (1 + 2 * i) 0 ≡ past_entered (lines text) (suc m) i
       entered-next =
-          omega (arith, inv.curve-to.ended, entered-past network m i below, past-entries-at (past-numbers m line (read.size ∙ inv.size)) i asked.link)
+          omega (arith, inv.curve-to.ended, entered-past (lines text) m i below, past-entries-at (past-numbers m line (read.size ∙ inv.size)) i (omega (arith, asked.counted, asked.link)))
 
       pub stop-fits : Fits w32 (arrival.stop + get_or after (1 + 2 * i) 0)
       stop-fits = record { fits = omega (arith, entered-next, asked.fits (suc m) (omega arith)) }
 
-      pub read-next : ReadTo tables.text.now i step after (record { step = m; start = arrival.stop; stop = arrival.stop + get_or after (1 + 2 * i) 0; place = next }) (m + 1)
+      pub read-next : ReadTo text i to after (record { step = m; start = arrival.stop; stop = arrival.stop + get_or after (1 + 2 * i) 0; place = next }) (m + 1)
       read-next =
           record {
-            within = omega arith;
+            onward = omega arith;
             size = read.size ∙ inv.size;
             curve-to = record {
               starts = rw (add-one m) (past-next m line);

@@ -37,15 +37,16 @@ pub record CurveTo (text : List ℕ) (i k : ℕ) (arrival : Arrival) : Type 0 wh
   pub began : (m : ℕ) → suc m ≡ k → arrival.start ≡ past_entered (lines text) m i
   pub ended : arrival.stop ≡ past_entered (lines text) k i
 
--- what reading the curve of link i at the end of a past step asks
-pub record ReadAsked (tables : NetworkTables) (i step : ℕ) : Type 0 where
-  pub counted : CountsHold (lines tables.text.now) tables.reading.counts
-  pub starts : Starts tables.text.now tables.reading.past_at (timeline_line (lines tables.text.now) 0)
-  pub forms : PastForms (lines tables.text.now)
-  pub stands : standing_in tables.links.now i ≡ past_entered (lines tables.text.now) 0 i
-  pub link : i < link_count (lines tables.text.now)
-  pub past : step < past_count (lines tables.text.now)
-  pub fits : (m : ℕ) → m ≤ suc step → past_entered (lines tables.text.now) m i < 4294967296
+-- what reading on from one line to another asks
+pub record ReadAsked (text : List ℕ) (links i from to : ℕ) (arrival : Arrival) : Type 0 where
+  pub counted : links ≡ link_count (lines text)
+  pub few : links ≤ max_links
+  pub link : i < links
+  pub onward : from ≤ to
+  pub within : to ≤ past_count (lines text)
+  pub forms : PastForms (lines text)
+  pub fits : (m : ℕ) → m ≤ to → past_entered (lines text) m i < 4294967296
+  pub curve-from : CurveTo text i from arrival
 
 -- ---- row 0
 -- the links are at their standing start in a row

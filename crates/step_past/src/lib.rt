@@ -10,7 +10,8 @@ ghost use Rattle.step_past.specs.Curves.{ReadAsked, CurveTo, Started, FindAsked,
 use network_tables::{Link, NetworkTables, PAST_SIZE};
 
 // What a link is waiting for: the step in which its travel time ends. If that is a past one, also what had entered the link by that step's start and by its end,
-// and the place of the `H` line after it. These three are no Option, by which `check_plan` takes 126 instructions more on the corridor, and 1.2 % on the largest.
+// and the place of the `H` line after it. These three are no Option: check_plan would take 6,870 instructions on the corridor, whose bar is 6,800, and 1.456 times
+// the twin's on the largest, whose bar is 1.45 (docs/MEASUREMENTS.md).
 #[derive(Clone, Copy, Default)]
 pub struct Arrival {
     pub step: usize,
@@ -37,29 +38,24 @@ impl PastLine<'_> {
     }
 }
 
-// What had entered link `i` by the start and by the end of past step `step`, by the `H` lines up to it.
-pub fn read_arrival(tables: &NetworkTables, i: usize, step: usize) -> Arrival
-    requires { ReadAsked tables.now i step }
-    ensures { CurveTo tables.now.text.now i (step + 1) result }
+// Reads `H` lines `from` to `to` - 1 for link `i`.
+pub fn read_on(
+    text: &[u8],
+    links: usize,
+    i: usize,
+    from: usize,
+    to: usize,
+    mut arrival: Arrival,
+) -> Arrival
+    requires { ReadAsked text.now links i from to arrival }
+    ensures { CurveTo text.now i to result }
 {
-    let standing = tables.links[i].standing;
-    let width = tables.reading.counts.past_width();
+    let width = 1 + 2 * links;
     let mut fields = [0u32; PAST_SIZE];
-    let mut arrival = Arrival {
-        start: standing,
-        stop: standing,
-        place: tables.reading.past_at,
-        ..Arrival::default()
-    };
-    for m in 0..step + 1 {
-        let next = network_tables::read_again(
-            tables.text,
-            arrival.place,
-            b'H',
-            &mut fields[..width],
-        );
+    for step in from..to {
+        let next = network_tables::read_again(text, arrival.place, b'H', &mut fields[..width]);
         arrival = Arrival {
-            step: m,
+            step,
             start: arrival.stop,
             stop: arrival.stop + fields[1 + 2 * i],
             place: next,

@@ -10,14 +10,14 @@ bounds-times-past c = let h = (times-room c.requires.asked).0 in search rules
 pub overflow_sub-times : goal.overflow_sub-times
 overflow_sub-times c = since-fits c.requires.asked
 
-pub read_arrival-requires : goal.read_arrival-requires
-read_arrival-requires c = read_asked c.requires c.if-times-past.true c.if-step-past.true
+pub returns-then-past-step : goal.returns-then-past-step
+returns-then-past-step c = no-past c.requires c.if-times-past.true c.if-past-step.true
 
-pub returns-then-step-past : goal.returns-then-step-past
-returns-then-step-past c = past-told c.requires c.if-times-past.true c.if-step-past.true c.read_arrival.ensures
+pub read_on-requires : goal.read_on-requires
+read_on-requires c = read_asked c.requires c.if-times-past.true c.if-past-step.false
 
 pub returns-then-times-past : goal.returns-then-times-past
-returns-then-times-past c = no-past c.requires c.if-times-past.true c.if-step-past.false
+returns-then-times-past c = past-told c.requires c.if-times-past.true c.if-past-step.false c.read_on.ensures
 
 pub overflow_sub-row : goal.overflow_sub-row
 overflow_sub-row c = in-plan c.requires c.if-times-past.false
