@@ -98,7 +98,7 @@ module _ {tables : NetworkTables} {before : List ℕ} {arrivals₀ : List Arriva
         below : m < past_count (lines text)
         below = omega (arith, asked.counted.past)
 
-        line : LineHeld letter_h (1 + 2 * link_count (lines text)) text (timeline_line (lines text) m) next 0 after
+        line : LineHeld letter_h (1 + 2 * link_count (lines text)) text (timeline_line (lines text) m) next after
         line = past-again read (omega (arith, w, asked.counted.links)) asked.forms m below inv.starts
 
         numbers : PastNumbers (lines text) m after

@@ -129,7 +129,7 @@ module _ {tables : NetworkTables} {at i to : ℕ} {before : List Arrival} (asked
           (r.room, omega (arith, boundary-time tables.times.now at r.rises, r.small at (omega arith)), omega (arith, own_behind.cursor.room, asked.is-step), omega (arith, reached))
 
       module _ {width : ℕ} (w : width ≡ 1 + 2 * tables.reading.counts.links) {next : ℕ} {after : List ℕ} (read : ReadAgain letter_h width tables.text.now (arrival_at arrivals i).place fields next after) where
-        line-read : LineHeld letter_h (1 + 2 * link_count (lines tables.text.now)) tables.text.now (timeline_line (lines tables.text.now) (from + 1)) next 0 after
+        line-read : LineHeld letter_h (1 + 2 * link_count (lines tables.text.now)) tables.text.now (timeline_line (lines tables.text.now) (from + 1)) next after
         line-read = past-again read (omega (arith, w, asked.asked.move-tables.counted.links)) asked.asked.move-tables.forms (from + 1) step_past (own_behind.curved (omega (arith, step_past))).starts
 
         own-link : (j : ℕ) → j < tables.reading.counts.links → j < link_count (lines tables.text.now)

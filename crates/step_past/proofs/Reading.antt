@@ -19,9 +19,9 @@ unfolding timeline_line
 timeline-line-suc network m = omega arith
 
 -- an `H` line that is read
-module _ {text : List ℕ} {after : List ℕ} {next : ℕ} (m : ℕ) (held : LineHeld letter_h (1 + 2 * link_count (lines text)) text (timeline_line (lines text) m) next 0 after) where
+module _ {text : List ℕ} {after : List ℕ} {next : ℕ} (m : ℕ) (held : LineHeld letter_h (1 + 2 * link_count (lines text)) text (timeline_line (lines text) m) next after) where
   pub past-numbers : length after ≡ past_size → PastNumbers (lines text) m after
-  past-numbers size = record { size = size; holds = λ k l. let z : k ≡ 0 + k = omega arith in ap (λ x. get_or after x 0) z ∙ held.numbers k l }
+  past-numbers size = record { size = size; holds = held.numbers }
 
   pub past-next : Starts text next (timeline_line (lines text) (suc m))
   past-next = rw (timeline-line-suc (lines text) m) held.starts
@@ -29,7 +29,7 @@ module _ {text : List ℕ} {after : List ℕ} {next : ℕ} (m : ℕ) (held : Lin
 -- a line that has passed is read again
 pub past-again : {text : List ℕ} {at width : ℕ} {before : List ℕ} {next : ℕ} {after : List ℕ} → ReadAgain letter_h width text at before next after → width ≡ 1 + 2 * link_count (lines text)
     → PastForms (lines text) → (m : ℕ) → m < past_count (lines text) → Starts text at (timeline_line (lines text) m)
-    → LineHeld letter_h (1 + 2 * link_count (lines text)) text (timeline_line (lines text) m) next 0 after
+    → LineHeld letter_h (1 + 2 * link_count (lines text)) text (timeline_line (lines text) m) next after
 past-again {text} read e forms m h starts = let again = rw e at read in again.held (timeline_line (lines text) m) starts (forms m h)
 
 -- what enters in a past step
@@ -51,7 +51,7 @@ module _ {text : List ℕ} {links i from to : ℕ} {first : Arrival} (asked : Re
       below : m < past_count (lines text)
       below = omega (arith, asked.within)
 
-      line : LineHeld letter_h (1 + 2 * link_count (lines text)) text (timeline_line (lines text) m) next 0 after
+      line : LineHeld letter_h (1 + 2 * link_count (lines text)) text (timeline_line (lines text) m) next after
       line = past-again read (omega (arith, asked.counted)) asked.forms m below inv.curve-to.starts
 
       entered-next : arrival.stop + get_or after (1 + 2 * i) 0 ≡ past_entered (lines text) (suc m) i
