@@ -1,5 +1,5 @@
 -- The lines of a sheet, read and judged one after another: one law for each way through a turn of a loop.
-use Rattle.base_laws.proofs.Kit.{ℕ, zero, suc, ◌+◌, ◌*◌, ◌≤◌, ◌<◌, ◌≡◌, refl, sym, ap, ap₂, ◌∙◌, Bool, true, false, not, ◌⊎◌, inl, inr, List, [], ℕ_discrete, add-one, eq-or-lt_of_le, arith, leb-true, leb, ltb, eqb, length, take, length-take, get_or, get_or-take, set, length-set, get_or-set_same, get_or-set_other}
+use Rattle.base_laws.proofs.Kit.{ℕ, zero, suc, ◌+◌, ◌*◌, ◌≤◌, ◌<◌, ◌≡◌, refl, sym, ap, ap₂, ◌∙◌, Bool, true, false, not, ◌⊎◌, inl, inr, List, [], ◌++◌, ℕ_discrete, add-one, eq-or-lt_of_le, arith, leb-true, leb, ltb, eqb, length, take, drop, length-take, get_or, get_or-take, set, length-set, get_or-set_same, get_or-set_other}
 use Rattle.base_search.specs.declared.Refusal.{Refusal}
 use Rattle.base_search.specs.Checks.{refusal, Checks, Verdict, or_else, checked, verdict}
 use Rattle.base_search.proofs.Laws.{or-else-passes, or-else-refused}
@@ -15,6 +15,7 @@ use Rattle.base_laws.proofs.Tests.{and_right, every-at, every-same}
 use Rattle.base_laws.proofs.Sums.{sum-ext}
 use Rattle.network_tables.specs.Fields.{signal_at}
 use Rattle.network_tables.specs.Rows.{LineHeld, RowRead}
+use Rattle.network_tables.proofs.Rows.{row_joined}
 use Rattle.network_tables.specs.Blocks.{PassedTo}
 use Rattle.network_tables.proofs.Places.{record-within}
 use Rattle.network_tables.proofs.Blocks.{passed_none, passed-all, passed-stop, passed-next}
@@ -103,9 +104,13 @@ few_offsets true = omega arith
 few_offsets false = omega arith
 
 module _ {signal : Signal} {before : List ℕ} (asked : LineAsked signal before) (b : Bool) {offsets : ℕ} (o : offsets ≡ from_bool b) where
-  module _ {text : List ℕ} {at : ℕ} {x : Option ℕ} {line : List ℕ} (got : RowRead letter_f (signal.phases + offsets) text at 0 before x line) where
-    row : RowRead letter_f (signal.phases + from_bool b) text at 0 before x line
-    row = rw o at got
+  module _ {text : List ℕ} {at : ℕ} {x : Option ℕ} {part : List ℕ} (got : RowRead letter_f (length (take (signal.phases + offsets) before)) text at (take (signal.phases + offsets) before) x part) where
+    -- the row, whose first numbers were read
+    abbrev line : List ℕ
+    line = part ++ drop (signal.phases + offsets) before
+
+    row : RowRead letter_f (signal.phases + from_bool b) text at before x line
+    row = rw (← o) (row_joined (omega (arith, o, asked.room, asked.ready.few-phases, few_offsets b)) got)
 
     size : length line ≡ sheet_fields
     size = row.size ∙ asked.room
@@ -119,7 +124,7 @@ module _ {signal : Signal} {before : List ℕ} (asked : LineAsked signal before)
 
     pub line-judged : {next : ℕ} → x ≡ Some next → (v : Bool) → v ≡ valid_numbers (from_bool b) signal (number_in line) → LineRead signal (from_bool b) text at (then_some v next) line
     unfolding ◌and◌
-    line-judged {next} e v told = go v (λ r u. told ∙ numbers-same signal (from_bool b) _ _ (λ k l. let z : 0 + k ≡ k = omega arith in rw z at ((row.held next e r u).numbers k l)))
+    line-judged {next} e v told = go v (λ r u. told ∙ numbers-same signal (from_bool b) _ _ (λ k l. (row.held next e r u).numbers k l))
       where
         go : (v : Bool) → ((r : ℕ) → Starts text at r → v ≡ is_valid signal (lines text) (from_bool b) r) → LineRead signal (from_bool b) text at (then_some v next) line
         go true f = record { size = size; refused = λ n. absurd (cc); held = λ m q r u. (row.held m (e ∙ q) r u, sym (f r u)) }
@@ -216,9 +221,7 @@ module _ {signals : List Signal} {text : List ℕ} {table₀ : List (List ℕ)} 
             inside : r < length table
             inside = omega (arith, inv.rows.size, asked.few)
 
-            by : LineHeld letter_f ((signal_at signals r).phases + from_bool b) text r next 0 line
+            by : LineHeld letter_f ((signal_at signals r).phases + from_bool b) text r next line
                 → {j : ℕ} (k : ℕ) → k < (signal_at signals j).phases + from_bool b → (j ≡ r) ⊎ (j < r) → number_in (line_in (set table r line) j) k ≡ entry (lines text) j k
-            by held k u (inl q) =
-                let z : 0 + k ≡ k = omega arith in
-                rw q (ap (λ l. number_in l k) (get_or-set_same table r line [] inside) ∙ (rw z at (held.numbers k (rw q at u))))
+            by held k u (inl q) = rw q (ap (λ l. number_in l k) (get_or-set_same table r line [] inside) ∙ held.numbers k (rw q at u))
             by held {j} k u (inr q) = ap (λ l. number_in l k) (get_or-set_other table r j line [] (λ w. omega arith)) ∙ inv.rows.numbers j k q u
