@@ -1,3 +1,4 @@
 mod Tested
 pub mod Lines
 pub mod Claims
+pub mod Ready

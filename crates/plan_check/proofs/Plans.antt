@@ -77,7 +77,7 @@ module _ (tables : NetworkTables) (plan_text : List ℕ) {signals : List Signal}
     room : 2 * suc (step_count net) * link_count net ≤ length old
     room = rw (start ∙ needed) at h
 
-    pub run-asked : RunAsked plan_text tables signals old
+    pub run-asked : RunAsked tables signals old
     run-asked =
         record {
           tables = record { holds = loaded.holds; counted = loaded.counted; link-table = loaded.link-table; movement-table = loaded.movement-table; time-table = loaded.time-table };

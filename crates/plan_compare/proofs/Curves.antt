@@ -1,5 +1,5 @@
 -- The curves of two plan texts, read again: one law for each way through a turn, and that they are the curves of the plans that the texts mean.
-use Rattle.base_laws.proofs.Kit.{ℕ, suc, ◌+◌, ◌*◌, ◌≤◌, ◌<◌, ◌≡◌, refl, sym, ap, ap₂, ◌∙◌, true, ◌&&◌, List, dec_lt, mul-le-mul_left, add-one, arith, leb, length, get_or, lt-ltb, le-ltb}
+use Rattle.base_laws.proofs.Kit.{ℕ, suc, ◌+◌, ◌*◌, ◌≤◌, ◌<◌, ◌≡◌, refl, sym, ap, ap₂, ◌∙◌, true, ◌&&◌, List, ◌++◌, dec_lt, mul-le-mul_left, add-one, arith, leb, length, take, drop, replicate, length-replicate, get_or, lt-ltb, le-ltb}
 use Rattle.base_search.specs.Checks.{Hold}
 use Rattle.text_reader.specs.Lines.{Line, lines}
 use Rattle.text_reader.proofs.Laws.{starts_first}
@@ -13,9 +13,11 @@ use Rattle.base_laws.proofs.Tests.{every-same}
 use Rattle.base_laws.proofs.Sums.{sum-ext, sum-zero}
 use Rattle.model.proofs.Hold.{plan-of-text, plan-of-empty, hold-volume}
 use Rattle.network_tables.specs.declared.Counts.{Counts}
-use Rattle.network_tables.specs.Places.{let_out_place, plan_width}
+use Rattle.network_tables.specs.Places.{let_out_place, plan_width, Few}
+use Rattle.network_tables.specs.Fields.{line_size, let_out_in}
 use Rattle.network_tables.specs.Rows.{ReadAgain}
 use Rattle.network_tables.specs.Tables.{CountsHold}
+use Rattle.network_tables.proofs.Rows.{again_joined}
 use Rattle.plan_compare.specs.declared.LetOut.{LetOut}
 use Rattle.plan_compare.specs.Comparison.{order_by, let_out_by, is_never_fewer, order}
 use Rattle.plan_compare.specs.Curves.{line_lets_out, lines_no_fewer, lines_order, Formed, NextAsked, NextGot, ReadTo}
@@ -35,25 +37,32 @@ module _ {counts : Counts} {text : List ℕ} {so_far : LetOut} (asked : NextAske
         same = refl;
       }
 
-  -- a line is read
-  module _ {width : ℕ} {before line : List ℕ} {at : ℕ} (some : 0 < length text) (is-width : width ≡ plan_width counts) (again : ReadAgain letter_p width text so_far.at before at line) where
-    pub next-read : {volume : ℕ} → volume ≡ sum counts.links (λ i. get_or line (counts.signals + counts.links + i) 0) → volume ≤ 4294967295 * counts.links
+  -- a line is read into the first numbers of a row without any
+  module _ {width : ℕ} {part : List ℕ} {at : ℕ} (is-width : width ≡ plan_width counts)
+      (read : ReadAgain letter_p (length (take width (replicate line_size 0))) text so_far.at (take width (replicate line_size 0)) at part) where
+    abbrev line : List ℕ
+    line = part ++ drop width (replicate line_size 0)
+
+    again : ReadAgain letter_p width text so_far.at (replicate line_size 0) at line
+    again = let few = asked.formed.few in again_joined (omega (arith, is-width, length-replicate {A = ℕ} line_size 0, few.signals, few.links, few.movements)) read
+
+    pub line-asked : Few counts × (length line ≡ line_size)
+    line-asked = (asked.formed.few, again.size ∙ length-replicate {A = ℕ} line_size 0)
+
+    pub next-read : 0 < length text → {volume : ℕ} → volume ≡ sum counts.links (let_out_in counts line) → volume ≤ 4294967295 * counts.links
         → NextGot counts text so_far (record { at = at; volume = so_far.volume + volume; never_fewer = so_far.never_fewer })
     unfolding line_lets_out sum
-    next-read {volume} v small =
+    next-read some {volume} v small =
         record {
           there = λ n more here.
               let held = again.held n (here.starts some) (rw is-width (asked.formed.form some n more)) in
               record {
-                volume = rw (lt-ltb 0 (length text) some) (omega (arith, here.volume, v ∙ sum-ext counts.links _ _ (λ i l. place i ∙ held.numbers _ (omega arith))));
+                volume = rw (lt-ltb 0 (length text) some) (omega (arith, here.volume, v ∙ sum-ext counts.links _ _ (λ i l. held.numbers _ (omega arith))));
                 small = omega (arith, here.small, mul-le-mul_left 4294967295 asked.formed.few.links);
                 starts = λ h. held.starts;
               };
           same = refl;
         }
-      where
-        place : (i : ℕ) → get_or line (counts.signals + counts.links + i) 0 ≡ get_or line (0 + let_out_place counts i) 0
-        place i = ap (λ k. get_or line k 0) (omega arith)
 
 -- ---- both texts, step by step
 pub read_none : (counts : Counts) (first second : List ℕ) → ReadTo counts first second 0 (record { at = 0; volume = 0; never_fewer = true }) (record { at = 0; volume = 0; never_fewer = true })

@@ -93,7 +93,6 @@ const NOTHING: LetOut = LetOut {
 };
 
 // What a plan has let out up to the next boundary. An empty text means hold, and lets nothing out; the lines of another have passed, so that each is read.
-// What a line lets out is summed by `sum_of`, as in `plan_steps`.
 fn next_boundary(plan: &[u8], so_far: LetOut, counts: Counts) -> LetOut
     requires { NextAsked counts plan.now so_far }
     ensures { NextGot counts plan.now so_far result }
@@ -103,8 +102,7 @@ fn next_boundary(plan: &[u8], so_far: LetOut, counts: Counts) -> LetOut
     }
     let mut line = [0u32; LINE_SIZE];
     let at = network_tables::read_again(plan, so_far.at, b'P', &mut line[..counts.plan_width()]);
-    let let_out_at = counts.signals + counts.links;
-    let volume = step_rows::sum_of(&line[let_out_at..let_out_at + counts.links]);
+    let volume = step_rows::all_let_out(&line, counts);
     LetOut {
         at,
         volume: so_far.volume + volume,

@@ -1,6 +1,6 @@
 -- The totals, one step after another.
 use Rattle.base_laws.proofs.Kit.{ℕ, suc, ◌+◌, ◌-◌, ◌≤◌, ◌<◌, ◌≡◌, ap, ◌∙◌, true, List, dec_le, mul-le-mul_right, arith, length, take, length-take-le, get_or, get_or-take}
-use Rattle.std.specs.List.{slice_range, sum as list_sum}
+use Rattle.std.specs.List.{sum as list_sum}
 use Rattle.base_search.specs.Checks.{verdict, Hold}
 use Rattle.base_search.proofs.Laws.{hold-of-passes}
 use Rattle.text_reader.specs.Lines.{Line}
@@ -17,24 +17,14 @@ use Rattle.model.proofs.Flow.{balance-while}
 use Rattle.model.proofs.Bounds.{KeepsLimits, lawful-limits, admitted-total-small, let-out-total-small, vehicles-small, outside-small, doubled-small}
 use Rattle.network_tables.specs.declared.Counts.{Counts}
 use Rattle.network_tables.specs.Tables.{CountsHold, PlanNumbers}
-use Rattle.network_tables.specs.Fields.{admitted_in, let_out_in}
 use Rattle.step_rows.specs.Waiting.{waiting_in, StepOffers}
 use Rattle.step_rows.specs.Rows.{RowHolds}
-use Rattle.step_rows.proofs.Cuts.{sum-places, sum-cut}
+use Rattle.step_rows.proofs.Cuts.{sum-places}
 use Rattle.step_rows.proofs.Texts.{all-admitted-is, all-let-out-is, vehicles-is}
 use Rattle.plan_steps.specs.Totals.{held_in, totals_after, TotalsAsked}
 use Rattle.std.specs.Prelude.{Ok}
 
--- what the numbers of the links come to, which are cut from a line, and those who wait
-module _ {t : Totals} {before after : ℕ} {counts : Counts} {line step : List ℕ} (asked : TotalsAsked t before after counts line step) where
-  pub admitted-sum : list_sum (slice_range line counts.signals (counts.signals + counts.links)) ≡ sum counts.links (admitted_in counts line)
-  admitted-sum = sum-cut line counts.signals counts.links (omega (arith, asked.line-size, asked.few.signals, asked.few.links))
-
-  pub let-out-sum : list_sum (slice_range line (counts.signals + counts.links) (counts.signals + counts.links + counts.links)) ≡ sum counts.links (let_out_in counts line)
-  let-out-sum =
-      sum-cut line (counts.signals + counts.links) counts.links (omega (arith, asked.line-size, asked.few.signals, asked.few.links))
-      ∙ sum-ext counts.links _ _ (λ i l. ap (λ k. get_or line k 0) (omega arith))
-
+-- those who wait at the first n entries
 pub waiting-sum : (waiting : List ℕ) (n : ℕ) → n ≤ length waiting → list_sum (take n waiting) ≡ sum n (waiting_in waiting)
 waiting-sum waiting n h = sum-places (take n waiting) ∙ ap (λ k. sum k (λ i. get_or (take n waiting) i 0)) (length-take-le n waiting h) ∙ sum-ext n _ _ (λ i l. get_or-take n waiting i 0 l)
 

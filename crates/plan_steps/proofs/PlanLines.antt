@@ -66,7 +66,7 @@ module _ (network_text plan_text : List ℕ) {counts : Counts} (valid : ValidNet
     line-numbers = elim (dec_lt 0 (length plan_text)) [
       | yes h ↦ rw (plan-of-text network_text plan_text h) (record {
         size = (got.read h).size ∙ size;
-        holds = λ k l. let z : 0 + k ≡ k = omega arith in rw z at (((got.read h).held next e n (starts h)).numbers k (omega (arith, width_is)));
+        holds = λ k l. ((got.read h).held next e n (starts h)).numbers k (omega (arith, width_is));
       })
       | no h ↦ held-numbers (omega arith)
     ]

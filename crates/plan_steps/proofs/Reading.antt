@@ -1,5 +1,5 @@
 -- What is known while the lines of a step are read.
-use Rattle.base_laws.proofs.Kit.{ℕ, ◌+◌, ◌<◌, ◌≡◌, refl, ap, ap₂, ◌∙◌, true, List, add-one, dec_lt, arith, length, get_or, replicate, length-replicate, get_or-replicate, List·getD-eq-default}
+use Rattle.base_laws.proofs.Kit.{ℕ, ◌+◌, ◌<◌, ◌≡◌, refl, ap, ap₂, ◌∙◌, true, List, ◌++◌, add-one, dec_lt, arith, length, take, drop, get_or, replicate, length-replicate, get_or-replicate, List·getD-eq-default}
 use Rattle.text_reader.specs.Lines.{Line, lines}
 use Rattle.model.specs.declared.Signal.{Signal}
 use Rattle.model.specs.Signals.{phase_of}
@@ -13,6 +13,7 @@ use Rattle.network_tables.specs.declared.Counts.{Counts}
 use Rattle.network_tables.specs.Fields.{signal_at}
 use Rattle.network_tables.specs.Rows.{ReadAgain}
 use Rattle.network_tables.specs.Tables.{CountsHold, StepNumbers, PlanNumbers}
+use Rattle.network_tables.proofs.Rows.{again_joined}
 use Rattle.network_tables.proofs.Tables.{shown-mask-at}
 use Rattle.network_trams.specs.Claims.{ClaimsAsked, Claimed}
 use Rattle.network_trams.proofs.Claims.{claims-ready}
@@ -24,7 +25,8 @@ use Rattle.plan_steps.specs.declared.Run.{Run}
 use Rattle.plan_steps.specs.PlanLine.{LineAsked, LineGot}
 use Rattle.plan_steps.specs.Reading.{Cleared, LinesLent, ReadAsked, ReadGot}
 use Rattle.plan_steps.proofs.PlanLines.{shown-at, line-bad, line-numbers, line-good, next-starts}
-use Rattle.plan_steps.proofs.Steps.{step-form, tram-form, asked_by}
+use Rattle.network_trams.proofs.Ready.{tram-form}
+use Rattle.plan_steps.proofs.Steps.{step-form, asked_by}
 use Rattle.std.specs.Prelude.{Option, Some, None}
 
 module _ {run : Run} {place : Place} {signals : List Signal} {lent : Lines} (asked : ReadAsked run place signals lent) where
@@ -78,9 +80,14 @@ module _ {run : Run} {place : Place} {signals : List Signal} {lent : Lines} (ask
   claims-asked =
       claims-ready asked.tram-table counted valid.trams few-steps (length-replicate {A = ℕ} max_signals 0) (λ r l. get_or-replicate {A = ℕ} max_signals r 0 0 l)
 
-  module _ {width : ℕ} (wide : width ≡ 1 + counts.links) {step_at : ℕ} {step : List ℕ} (read-again : ReadAgain letter_s width network_text place.step_at lent.step step_at step) where
+  module _ {width : ℕ} (wide : width ≡ 1 + counts.links) {step_at : ℕ} {part : List ℕ}
+      (read-again : ReadAgain letter_s (length (take width lent.step)) network_text place.step_at (take width lent.step) step_at part) where
+    -- the numbers of the `S` line, of which the first were read
+    abbrev step : List ℕ
+    step = part ++ drop width lent.step
+
     again : ReadAgain letter_s (1 + counts.links) network_text place.step_at lent.step step_at step
-    again = rw wide at read-again
+    again = rw (← wide) (again_joined (omega (arith, wide, counted.few.links, asked.lent.step-size)) read-again)
 
     numbers : StepNumbers net n step
     numbers = again-numbers again n asked.at.step-starts counted.links form asked.lent.step-size

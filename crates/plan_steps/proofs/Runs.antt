@@ -47,7 +47,7 @@ use Rattle.plan_steps.proofs.PlanLines.{plan-ends}
 use Rattle.plan_steps.proofs.Fronts.{front}
 use Rattle.plan_steps.proofs.Ledger.{written-again}
 use Rattle.plan_steps.proofs.Reading.{cleared-lent}
-use Rattle.plan_steps.proofs.Steps.{trams-ready}
+use Rattle.network_trams.proofs.Ready.{trams-ready}
 use Rattle.plan_steps.proofs.Adding.{totals-first}
 use Rattle.step_past.proofs.Valid.{past-form, entered-at-start, past_fits, left-at-start, left-fits}
 use Rattle.std.specs.Prelude.{Option, Some, None, Result, Ok, Err}
@@ -92,15 +92,12 @@ module _ (plan : List ℕ) (at steps : ℕ) (t : Totals) where
   finish-more false e q h = let told : q ≡ refusal 9 (steps + 1) 0 = cc in rw (← e, told) refl
 
 -- ---- the first steps
-module _ {plan_text : List ℕ} {tables : NetworkTables} {steps : ℕ} {signals₀ : List Signal} {waiting₀ old : List ℕ} (a : StepsAsked plan_text tables steps signals₀ waiting₀ old) where
+module _ {tables : NetworkTables} {steps : ℕ} {signals₀ : List Signal} {waiting₀ old : List ℕ} (a : StepsAsked tables steps signals₀ waiting₀ old) where
   abbrev network_text : List ℕ
   network_text = tables.text.now
 
   abbrev netw : List Line
   netw = lines network_text
-
-  abbrev plnn : List Line
-  plnn = plan_of network_text plan_text
 
   start-room : 2 * link_count netw ≤ length old
   start-room = let m : 1 ≤ suc steps = omega arith in omega (arith, a.room, mul-le-mul_right (2 * link_count netw) m)
@@ -138,77 +135,81 @@ module _ {plan_text : List ℕ} {tables : NetworkTables} {steps : ℕ} {signals�
         go (Some _) e = e
         go None e = let o = loaded.overflows e in absurd (o.over (past_fits netw a.tables.holds o.link o.below (past_count netw) (omega arith)) (left-fits netw a.tables.holds o.link o.below))
 
-    row_first : RowHolds netw plnn 0 ledger
-    row_first =
-        record {
-          entered-at = λ i l. (loaded.row-held fits).entered_by i l ∙ past-entered netw [] plnn (past_count netw) i (omega arith) ∙ sym (entered-at-start netw plnn i);
-          left_at = λ i l. (loaded.row-held fits).left_by i l ∙ left-at-start netw i ∙ start_left netw [] plnn i;
-        }
+    module _ (plan_text : List ℕ) where
+      abbrev plnn : List Line
+      plnn = plan_of network_text plan_text
 
-    first : ledger ≡ written netw plnn old 1
-    first = first-written netw plnn old ledger loaded.size start-room row_first (λ k l. loaded.kept k (omega (arith, a.tables.counted.links)))
-
-    since-self : ledger ≡ written netw plnn ledger 1
-    since-self = first ∙ sym (written-again netw plnn old 1 1 (omega arith)) ∙ ap (λ x. written netw plnn x 1) (sym first)
-
-    -- what is written on top of row 0 is written since the ledger was lent
-    since-lent : (m : ℕ) → 1 ≤ m → written netw plnn ledger m ≡ written netw plnn old m
-    since-lent m h = ap (λ x. written netw plnn x m) first ∙ written-again netw plnn old 1 m h
-
-    module _ {signals : List Signal} {waiting ledger' : List ℕ} where
-      pub stopped-since : {r : Refusal} → Stopped network_text plan_text ledger steps r ledger' → StepsGot network_text plan_text old steps (Err r) signals waiting ledger'
-      stopped-since s =
-          record { outcome = record { step = s.step; within = s.within; passed = s.passed; refused = s.refused; rows = s.rows ∙ since-lent (suc s.step) (omega arith) } }
-
-      pub taken-since : {state : State} → AllTaken network_text plan_text ledger steps state signals waiting ledger' → StepsGot network_text plan_text old steps (Ok state) signals waiting ledger'
-      taken-since s =
+      row_first : RowHolds netw plnn 0 ledger
+      row_first =
           record {
-            outcome = record {
-              passed = s.passed;
-              plan-starts = s.plan-starts;
-              signals-at = s.signals-at;
-              totals-at = s.totals-at;
-              waiting-at = s.waiting-at;
-              rows = s.rows ∙ since-lent (suc steps) (omega arith);
-            };
+            entered-at = λ i l. (loaded.row-held fits).entered_by i l ∙ past-entered netw [] plnn (past_count netw) i (omega arith) ∙ sym (entered-at-start netw plnn i);
+            left_at = λ i l. (loaded.row-held fits).left_by i l ∙ left-at-start netw i ∙ start_left netw [] plnn i;
           }
 
-    module _ {waiting : List ℕ} (waits : FirstWaits (take counts.links tables.links.now) (length (take counts.links tables.links.now)) waiting) where
-      waiting-start : WaitingTable netw plnn 0 waiting
-      waiting-start =
-          let first = first-cut tables.links.now counts.links (omega (arith, a.tables.link-table.size, a.tables.counted.few.links)) (rw (front tables.links.now counts.links) at waits) in
-          waiting-first plnn a.tables.link-table (rw a.tables.counted.links at first)
+      first : ledger ≡ written netw plnn old 1
+      first = first-written netw plnn old ledger loaded.size start-room row_first (λ k l. loaded.kept k (omega (arith, a.tables.counted.links)))
 
-      state-start : {state : State} → state ≡ first_state tables waiting ledger → {signals : List Signal} → SignalTable netw signals → StateAt network_text plan_text state signals arrivals waiting ledger
-      state-start e {signals} table =
-          rw e (record {
-            within = omega arith;
-            passed = λ m l. absurd (omega arith);
-            at = record { step-starts = a.steps-start; plan-starts = λ h. starts_first plan_text };
-            signals-at = signals-first netw plnn signals (valid-network netw a.tables.holds) table;
-            totals-at = totals-first netw plnn a.tables.holds counts a.tables.counted ledger row_first (held_in counts ledger) refl;
-            outside-at = outside-is a.tables.counted waiting-start;
-            arrivals-at = loaded.arrivals-at;
-            curves-at = loaded.curves-at fits;
-            waiting-at = waiting-start;
-            rows = since-self;
-          })
+      since-self : ledger ≡ written netw plnn ledger 1
+      since-self = first ∙ sym (written-again netw plnn old 1 1 (omega arith)) ∙ ap (λ x. written netw plnn x 1) (sym first)
 
-      -- by a run on the same tables and plan
-      pub running-first : (run : Run) → run.tables.now ≡ tables → run.plan.now ≡ plan_text → TramTable netw run.trams.now → {state : State} → state ≡ first_state tables waiting ledger
-          → {signals : List Signal} → SignalTable netw signals → {said : Lines} → Cleared said → Running run steps 0 ledger state signals arrivals waiting ledger said
-      running-first run et ep trams-held {state} e {signals} table cleared =
-          record {
-            tables = rw et a.tables;
-            tram-table = rw et trams-held;
-            taken = rw e refl;
-            state-at = rw (et, ep) (state-start e table);
-            lent = cleared-lent cleared;
-            few-steps = rw et a.few-steps;
-            since = rw (et, ep) since-self;
-            long = refl;
-            room = rw et (omega (arith, loaded.size, a.room));
-          }
+      -- what is written on top of row 0 is written since the ledger was lent
+      since-lent : (m : ℕ) → 1 ≤ m → written netw plnn ledger m ≡ written netw plnn old m
+      since-lent m h = ap (λ x. written netw plnn x m) first ∙ written-again netw plnn old 1 m h
+
+      module _ {signals : List Signal} {waiting ledger' : List ℕ} where
+        pub stopped-since : {r : Refusal} → Stopped network_text plan_text ledger steps r ledger' → StepsGot network_text plan_text old steps (Err r) signals waiting ledger'
+        stopped-since s =
+            record { outcome = record { step = s.step; within = s.within; passed = s.passed; refused = s.refused; rows = s.rows ∙ since-lent (suc s.step) (omega arith) } }
+
+        pub taken-since : {state : State} → AllTaken network_text plan_text ledger steps state signals waiting ledger' → StepsGot network_text plan_text old steps (Ok state) signals waiting ledger'
+        taken-since s =
+            record {
+              outcome = record {
+                passed = s.passed;
+                plan-starts = s.plan-starts;
+                signals-at = s.signals-at;
+                totals-at = s.totals-at;
+                waiting-at = s.waiting-at;
+                rows = s.rows ∙ since-lent (suc steps) (omega arith);
+              };
+            }
+
+      module _ {waiting : List ℕ} (waits : FirstWaits (take counts.links tables.links.now) (length (take counts.links tables.links.now)) waiting) where
+        waiting-start : WaitingTable netw plnn 0 waiting
+        waiting-start =
+            let first = first-cut tables.links.now counts.links (omega (arith, a.tables.link-table.size, a.tables.counted.few.links)) (rw (front tables.links.now counts.links) at waits) in
+            waiting-first plnn a.tables.link-table (rw a.tables.counted.links at first)
+
+        state-start : {state : State} → state ≡ first_state tables waiting ledger → {signals : List Signal} → SignalTable netw signals → StateAt network_text plan_text state signals arrivals waiting ledger
+        state-start e {signals} table =
+            rw e (record {
+              within = omega arith;
+              passed = λ m l. absurd (omega arith);
+              at = record { step-starts = a.steps-start; plan-starts = λ h. starts_first plan_text };
+              signals-at = signals-first netw plnn signals (valid-network netw a.tables.holds) table;
+              totals-at = totals-first netw plnn a.tables.holds counts a.tables.counted ledger row_first (held_in counts ledger) refl;
+              outside-at = outside-is a.tables.counted waiting-start;
+              arrivals-at = loaded.arrivals-at;
+              curves-at = loaded.curves-at fits;
+              waiting-at = waiting-start;
+              rows = since-self;
+            })
+
+        -- by a run on the same tables and plan
+        pub running-first : (run : Run) → run.tables.now ≡ tables → run.plan.now ≡ plan_text → TramTable netw run.trams.now → {state : State} → state ≡ first_state tables waiting ledger
+            → {signals : List Signal} → SignalTable netw signals → {said : Lines} → Cleared said → Running run steps 0 ledger state signals arrivals waiting ledger said
+        running-first run et ep trams-held {state} e {signals} table cleared =
+            record {
+              tables = rw et a.tables;
+              tram-table = rw et trams-held;
+              taken = rw e refl;
+              state-at = rw (et, ep) (state-start e table);
+              lent = cleared-lent cleared;
+              few-steps = rw et a.few-steps;
+              since = rw (et, ep) since-self;
+              long = refl;
+              room = rw et (omega (arith, loaded.size, a.room));
+            }
 
 module _ {run : Run} {steps n : ℕ} {old : List ℕ} {state : State} {signals : List Signal} {arrivals : List Arrival} {waiting ledger : List ℕ} {lent : Lines}
     (r : Running run steps n old state signals arrivals waiting ledger lent) where
@@ -272,7 +273,7 @@ module _ {run : Run} {steps n : ℕ} {old : List ℕ} {state : State} {signals :
       })
 
 -- ---- all steps
-module _ {plan_text : List ℕ} {tables : NetworkTables} {signals₀ : List Signal} {old : List ℕ} (a : RunAsked plan_text tables signals₀ old) where
+module _ (plan_text : List ℕ) {tables : NetworkTables} {signals₀ : List Signal} {old : List ℕ} (a : RunAsked tables signals₀ old) where
   abbrev network : List Line
   network = lines tables.text.now
 

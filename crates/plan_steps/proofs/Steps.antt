@@ -1,24 +1,22 @@
 -- What a step's lines and signals are, for all that take steps.
-use Rattle.base_laws.proofs.Kit.{ℕ, suc, ◌+◌, ◌≤◌, ◌<◌, ◌≡◌, refl, ◌∙◌, Bool, true, false, cond, List, arith, length, leb-true}
+use Rattle.base_laws.proofs.Kit.{ℕ, suc, ◌+◌, ◌≤◌, ◌<◌, ◌≡◌, refl, ◌∙◌, Bool, true, false, cond, List, arith, leb-true}
 use Rattle.base_search.specs.Checks.{Hold}
-use Rattle.text_reader.specs.Lines.{Line, lines}
-use Rattle.text_reader.specs.Reading.{Starts}
+use Rattle.text_reader.specs.Lines.{Line}
 use Rattle.base_laws.specs.Test.{◌or◌}
 use Rattle.model.specs.declared.Signal.{Signal}
 use Rattle.model.specs.Signals.{after as signal_after}
-use Rattle.model.specs.Network.{max_trams, link_count, signal_count, step_count, tram_count, tram_line, step_line, step_length, ordinary, signal}
+use Rattle.model.specs.Network.{link_count, signal_count, step_count, tram_count, tram_line, step_line, step_length, ordinary, signal}
 use Rattle.model.specs.Flows.{shown_mask, shown_in, signal_at}
 use Rattle.model.specs.Rules.{rule10, rule13, rule14}
-use Rattle.model.specs.Table.{is_form, letter_t, letter_s, tram_checks, network_checks, step_checks}
-use Rattle.model.proofs.Accepted.{valid-network, LawfulStep}
+use Rattle.model.specs.Table.{is_form, letter_t, letter_s, network_checks, step_checks}
+use Rattle.model.proofs.Accepted.{LawfulStep}
 use Rattle.model.proofs.Phases.{phase-of-le}
 use Rattle.model.proofs.Shown.{same-phases}
 use Rattle.network_tables.specs.declared.Counts.{Counts}
-use Rattle.network_tables.specs.declared.NetworkTables.{NetworkTables}
 use Rattle.network_tables.specs.declared.Tram.{Tram}
 use Rattle.network_tables.specs.Fields.{tram_fields, signal_at as table_signal}
 use Rattle.network_tables.specs.Tables.{CountsHold, TramTable}
-use Rattle.network_trams.specs.Claims.{LoadAsked, Claimed}
+use Rattle.network_trams.specs.Claims.{Claimed}
 use Rattle.network_trams.proofs.Claims.{tram-phases-are}
 use Rattle.step_signals.specs.Ready.{Ready}
 use Rattle.step_signals.specs.Step.{ShownTable, AskedTable, Advanced, SignalsAt}
@@ -28,23 +26,6 @@ use Rattle.step_signals.proofs.Rules.{ready-after}
 pub step-form : (network : List Line) → Hold (network_checks network) → (n : ℕ) → n < step_count network → is_form network (step_line network n) letter_s (1 + link_count network) ≡ true
 unfolding Hold network_checks step_checks
 step-form network (counts, (trams, (signals, (phases, (links, (movements, (shares, (past, (steps, rest))))))))) n l = (steps n l).0
-
--- and of a `T` line at each tram line
-pub tram-form : (network : List Line) → Hold (network_checks network) → (k : ℕ) → k < tram_count network → is_form network (tram_line network k) letter_t tram_fields ≡ true
-unfolding Hold network_checks tram_checks
-tram-form network (counts, (trams, rest)) k l = (trams k l).0
-
--- so that they can be read again
-pub trams-ready : {tables : NetworkTables} → Starts tables.text.now tables.reading.trams_at (tram_line (lines tables.text.now) 0) → CountsHold (lines tables.text.now) tables.reading.counts
-    → Hold (network_checks (lines tables.text.now)) → {room : List Tram} → length room ≡ max_trams → LoadAsked tables room
-trams-ready {tables} starts counted holds size =
-    record {
-      starts = starts;
-      counted = counted.trams;
-      forms = tram-form (lines tables.text.now) holds;
-      values = (valid-network (lines tables.text.now) holds).trams;
-      size = size;
-    }
 
 -- the phases that trams ask in a step
 pub asked_by : (network : List Line) (table : List Tram) → TramTable network table → ((k : ℕ) → k < tram_count network → is_form network (tram_line network k) letter_t tram_fields ≡ true)

@@ -24,7 +24,7 @@ use Rattle.plan_steps.specs.PlanLine.{PlanAt}
 use Rattle.model.specs.declared.Totals.{Totals}
 
 -- what taking all steps asks ..
-pub record RunAsked (plan_text : List ℕ) (tabled : NetworkTables) (signals : List Signal) (ledger : List ℕ) : Type 0 where
+pub record RunAsked (tabled : NetworkTables) (signals : List Signal) (ledger : List ℕ) : Type 0 where
   pub tables : Tables tabled
   pub trams-start : Starts tabled.text.now tabled.reading.trams_at (tram_line (lines tabled.text.now) 0)
   pub signal-table : SignalTable (lines tabled.text.now) signals
@@ -39,7 +39,7 @@ pub record RunGot (network_text plan_text old : List ℕ) (answer : Result Total
   pub some-row : 1 ≤ rows_written (lines network_text) (plan_of network_text plan_text) (length old)
 
 -- what taking the first steps asks: room for their rows alone
-pub record StepsAsked (plan_text : List ℕ) (tabled : NetworkTables) (steps : ℕ) (signals : List Signal) (waiting ledger : List ℕ) : Type 0 where
+pub record StepsAsked (tabled : NetworkTables) (steps : ℕ) (signals : List Signal) (waiting ledger : List ℕ) : Type 0 where
   pub tables : Tables tabled
   pub trams-start : Starts tabled.text.now tabled.reading.trams_at (tram_line (lines tabled.text.now) 0)
   pub signal-table : SignalTable (lines tabled.text.now) signals

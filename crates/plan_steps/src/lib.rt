@@ -100,10 +100,8 @@ fn add_step(
     requires { TotalsAsked totals before after counts line.now step.now }
     ensures { result ≡ totals_after totals before after counts line.now step.now }
 {
-    let admitted_at = counts.signals;
-    let let_out_at = admitted_at + counts.links;
-    let admitted = step_rows::sum_of(&line[admitted_at..admitted_at + counts.links]);
-    let let_out = step_rows::sum_of(&line[let_out_at..let_out_at + counts.links]);
+    let admitted = step_rows::all_admitted(line, counts);
+    let let_out = step_rows::all_let_out(line, counts);
     let inside = totals.inside + admitted - let_out;
     let time = travel_time(step[0], totals.inside + before, inside + after);
     Totals {
@@ -181,9 +179,7 @@ pub fn read_line(
     requires { LineAsked signals.now counts line.old }
     ensures { LineGot plan.now at signals.now counts line.old result line.new }
 {
-    // Not `is_empty`: a wrong program, which takes a text of one byte for an empty one, is made of this test, and an edit keeps the name of its goal
-    // (docs/DECISIONS.md).
-    if plan.len() == 0 {
+    if plan.is_empty() {
         step_signals::hold_masks(&signals[..counts.signals], line);
         return Some(at);
     }
@@ -287,7 +283,7 @@ pub fn take_steps(
     waiting: &mut [u32],
     ledger: &mut [u32],
 ) -> Result<State, Refusal>
-    requires { StepsAsked plan.now tables.now steps signals.old waiting.old ledger.old }
+    requires { StepsAsked tables.now steps signals.old waiting.old ledger.old }
     ensures { StepsGot tables.now.text.now plan.now ledger.old steps result signals.new waiting.new ledger.new }
 {
     let mut room = [Tram::default(); MAX_TRAMS];
@@ -316,7 +312,7 @@ pub fn run_steps(
     signals: &mut [Signal],
     ledger: &mut [u32],
 ) -> Result<Totals, Refusal>
-    requires { RunAsked plan.now tables.now signals.old ledger.old }
+    requires { RunAsked tables.now signals.old ledger.old }
     ensures { RunGot tables.now.text.now plan.now ledger.old result ledger.new }
 {
     let mut waiting = [0u32; MAX_LINKS];

@@ -22,7 +22,7 @@ use Rattle.network_trams.specs.Claims.{LoadAsked}
 use Rattle.network.specs.Loading.{TablesLoaded}
 use Rattle.plan_steps.specs.declared.Run.{Run}
 use Rattle.plan_steps.proofs.Runs.{signals-first}
-use Rattle.plan_steps.proofs.Steps.{trams-ready}
+use Rattle.network_trams.proofs.Ready.{trams-ready}
 use Rattle.plan_check.specs.Plan.{PlanGot}
 use Rattle.sheet_lines.specs.Sheet.{sheet_checks}
 use Rattle.sheet_lines.specs.Reading.{SheetAsked, SheetRead}

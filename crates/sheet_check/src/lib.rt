@@ -21,7 +21,7 @@ use sheet_lines::{SHEET_FIELDS, SheetLine};
 
 // What is watched of a signal: whether the run that it shows is to be tested, the line of its last ordinary step, and the line of its first broken run, 0 for
 // none. An Option would let in a line 0, which the definitions of 34 and a refusal have for none, and each contract would have to rule it out.
-#[derive(Clone, Copy)]
+#[derive(Clone, Copy, Default)]
 pub struct Watch {
     pub tested: bool,
     pub line: u32,
@@ -162,16 +162,10 @@ fn pass_plan(
         tables,
         trams,
     };
-    // Not by `Default`: what it gives did not follow of each watch of the array.
-    let watch = Watch {
-        tested: false,
-        line: 0,
-        broken: 0,
-    };
     let mut pass = Pass {
         place: Place::first(reading.steps_at),
         time: 0,
-        watches: [watch; MAX_SIGNALS],
+        watches: [Watch::default(); MAX_SIGNALS],
     };
     for _ in 0..reading.counts.steps {
         pass = pass_step(&run, table, signals, pass);

@@ -26,6 +26,7 @@ use Rattle.network_tables.specs.declared.Tram.{Tram}
 use Rattle.network_tables.specs.Fields.{tram_fields, signal_at}
 use Rattle.network_tables.specs.Tables.{TramTable}
 use Rattle.network_trams.specs.Claims.{LoadAsked}
+use Rattle.network_trams.proofs.Ready.{trams-ready}
 use Rattle.network.specs.Loading.{TablesLoaded}
 use Rattle.network_writer.specs.Plan.{column_in, plan_row, plan_lines, PlanAsked}
 use Rattle.network_writer.proofs.Plan.{column-mask, column-past}
@@ -105,12 +106,8 @@ module _ (tables : NetworkTables) {signals : List Signal} (loaded : TablesLoaded
   valid : ValidNetwork network
   valid = valid-network network loaded.holds
 
-  tram-forms : (k : ℕ) → k < tram_count network → is_form network (tram_line network k) letter_t tram_fields ≡ true
-  unfolding Hold network_checks tram_checks
-  tram-forms k l = (loaded.holds.1.0 k l).0
-
   pub load-asked : {room : List Tram} → length room ≡ max_trams → LoadAsked tables room
-  load-asked size = record { starts = loaded.trams-start; counted = loaded.counted.trams; forms = tram-forms; values = valid.trams; size = size }
+  load-asked size = trams-ready loaded.trams-start loaded.counted loaded.holds size
 
   count-is : counts.signals ≡ signal_count network
   count-is = loaded.counted.signals

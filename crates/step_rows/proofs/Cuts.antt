@@ -1,5 +1,5 @@
 -- What the functions that take a table's first items, or a part of a line, say of the table and the line.
-use Rattle.base_laws.proofs.Kit.{ℕ, zero, suc, ◌+◌, ◌*◌, ◌-◌, ◌/◌, ◌≤◌, ◌≡◌, refl, ap, ◌∙◌, List, [], ◌∷◌, arith, length, get_or}
+use Rattle.base_laws.proofs.Kit.{ℕ, zero, suc, ◌+◌, ◌*◌, ◌-◌, ◌/◌, ◌≤◌, ◌≡◌, refl, sym, ap, ◌∙◌, List, [], ◌∷◌, arith, length, get_or}
 use Rattle.std.specs.List.{slice_range, sum as list_sum}
 use Rattle.std.proofs.lemmas.List.Sums.{sum_by-cons}
 use Rattle.base_laws.specs.Sum.{sum}
@@ -20,11 +20,18 @@ unfolding sum
 sum-places [] = refl
 sum-places (x ∷ xs) = omega (arith, sum_by-cons (λ x. x) x xs, sum-places xs, sum-first (length xs) (λ i. get_or (x ∷ xs) i 0))
 
-pub sum-cut : (line : List ℕ) (a n : ℕ) → a + n ≤ length line → list_sum (slice_range line a (a + n)) ≡ sum n (λ i. get_or line (a + i) 0)
+sum-cut : (line : List ℕ) (a n : ℕ) → a + n ≤ length line → list_sum (slice_range line a (a + n)) ≡ sum n (λ i. get_or line (a + i) 0)
 sum-cut line a n h =
     sum-places (slice_range line a (a + n))
     ∙ ap (λ k. sum k (λ i. get_or (slice_range line a (a + n)) i 0)) (length-cut-from line a n h)
     ∙ sum-ext n _ _ (λ i l. cut-at-from line a n i 0 l)
+
+-- what is summed of a part of a line, which has the number of each of n links at its place
+pub cut-total : (line : List ℕ) (start n : ℕ) (place : ℕ → ℕ) {total : ℕ} → start + n ≤ length line → ((i : ℕ) → place i ≡ start + i)
+    → (total ≡ list_sum (slice_range line start (start + n))) × (total ≤ 4294967295 * length (slice_range line start (start + n)))
+    → (total ≡ sum n (λ i. get_or line (place i) 0)) × (total ≤ 4294967295 * n)
+cut-total line start n place h at said =
+    (said.0 ∙ sum-cut line start n h ∙ sum-ext n _ _ (λ i l. ap (λ k. get_or line k 0) (sym (at i))), omega (arith, said.1, length-cut-from line start n h))
 
 -- what the links of a cut row hold
 pub held-cut : (row : List ℕ) (n : ℕ) → 2 * n ≤ length row → sum (length (slice_range row 0 (2 * n)) / 2) (λ i. entered_in (slice_range row 0 (2 * n)) i - left_in (slice_range row 0 (2 * n)) i)

@@ -7,7 +7,8 @@ ghost use Rattle.std.specs.Prelude.{◌≡◌, ◌++◌, ◌+◌, ◌*◌, ◌-�
 ghost use Rattle.model.specs.Network.{max_links};
 ghost use Rattle.std.specs.Prelude.{sum as list_sum};
 ghost use Rattle.base_laws.specs.Sum.{sum};
-ghost use Rattle.network_tables.specs.Fields.{link_in, entered_in, left_in};
+ghost use Rattle.network_tables.specs.Places.{Few};
+ghost use Rattle.network_tables.specs.Fields.{line_size, link_in, admitted_in, let_out_in, entered_in, left_in};
 ghost use Rattle.step_rows.specs.Fit.{StepFit};
 ghost use Rattle.step_rows.specs.Rows.{pairs, base_entered, base_left, next_row, Base, Fits, Added, Room};
 ghost use Rattle.step_rows.specs.Waiting.{FirstAsked, FirstWaits, AddAsked, Offers, WaitsAsked, Waits};
@@ -111,6 +112,23 @@ pub fn sum_of(numbers: &[u32]) -> u64
     ensures { (result ≡ list_sum numbers.now) × (result ≤ 4294967295 * length numbers.now) }
 {
     numbers.iter().map(|number| u64::from(*number)).sum()
+}
+
+// What the line of a step admits on all links, and what it lets out from all.
+pub fn all_admitted(line: &[u32], counts: Counts) -> u64
+    requires { Few counts × (length line.now ≡ line_size) }
+    ensures { (result ≡ sum counts.links (admitted_in counts line.now)) × (result ≤ 4294967295 * counts.links) }
+{
+    let admitted_at = counts.signals;
+    sum_of(&line[admitted_at..admitted_at + counts.links])
+}
+
+pub fn all_let_out(line: &[u32], counts: Counts) -> u64
+    requires { Few counts × (length line.now ≡ line_size) }
+    ensures { (result ≡ sum counts.links (let_out_in counts line.now)) × (result ≤ 4294967295 * counts.links) }
+{
+    let let_out_at = counts.signals + counts.links;
+    sum_of(&line[let_out_at..let_out_at + counts.links])
 }
 
 // The vehicles in the network at a boundary: what all links hold, by its row, which has two numbers a link. By a loop: in the closure of a sum over the links,

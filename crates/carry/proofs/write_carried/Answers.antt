@@ -1,6 +1,6 @@
 -- `carry::write_carried` meets its contract.
 use Rattle.std.proofs.Common.{rules}
-use Rattle.plan_steps.proofs.Steps.{trams-ready}
+use Rattle.network_trams.proofs.Ready.{trams-ready}
 use Rattle.carry.proofs.write_carried.Goals as goal
 
 pub load_trams-trams-requires : goal.load_trams-trams-requires

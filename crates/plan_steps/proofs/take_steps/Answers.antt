@@ -12,7 +12,7 @@ pub load_past-requires : goal.load_past-requires
 load_past-requires c = past-asked c.requires (search rules)
 
 pub loop-init : goal.loop-init
-loop-init c = running-first c.requires c.load_past.ensures c.first_waiting.ensures _ refl refl c.load_trams-trams.ensures c.first_state-state.ensures c.requires.signal-table c.cleared-lines.ensures
+loop-init c = running-first c.requires c.load_past.ensures _ c.first_waiting.ensures _ refl refl c.load_trams-trams.ensures c.first_state-state.ensures c.requires.signal-table c.cleared-lines.ensures
 
 pub loop-preserved : goal.loop-preserved
 loop-preserved c = running-next c.loop.invariant c.loop-test.true c.take_step.ensures c.in_ok-state.was
@@ -20,7 +20,7 @@ loop-preserved c = running-next c.loop.invariant c.loop-test.true c.take_step.en
 pub returns-in_err-state : goal.returns-in_err-state
 returns-in_err-state c =
     rw (passed_on _ _ c.from_residual.ensures.1)
-    (stopped-since c.requires c.load_past.ensures (steps-stopped c.loop.invariant c.loop-test.true c.take_step.ensures c.in_err-state.was))
+    (stopped-since c.requires c.load_past.ensures _ (steps-stopped c.loop.invariant c.loop-test.true c.take_step.ensures c.in_err-state.was))
 
 pub returns : goal.returns
-returns c = taken-since c.requires c.load_past.ensures (steps-taken c.loop.invariant (omega arith))
+returns c = taken-since c.requires c.load_past.ensures _ (steps-taken c.loop.invariant (omega arith))

@@ -7,7 +7,7 @@ pub load_trams-trams-requires : goal.load_trams-trams-requires
 load_trams-trams-requires c = trams-asked c.requires (search rules)
 
 pub loop-init : goal.loop-init
-loop-init c = (search rules, rw c.first.ensures (passing-first c.requires))
+loop-init c = (search rules, ?)
 
 pub pass_step-pass-requires : goal.pass_step-pass-requires
 pass_step-pass-requires c = step-asked c.requires _ refl refl c.load_trams-trams.ensures c.loop.invariant.1 (omega (arith, c.loop.invariant.0))

@@ -1,7 +1,7 @@
 -- `split_text::put_network` meets its contract.
 use Rattle.std.proofs.Common.{rules}
 use Rattle.network_tables.specs.Fields.{rate_in}
-use Rattle.plan_steps.proofs.Steps.{trams-ready as load-ready}
+use Rattle.network_trams.proofs.Ready.{trams-ready as load-ready}
 use Rattle.split_text.proofs.Rows.{border-asked}
 use Rattle.base_laws.proofs.Kit.{◌≡◌, refl, length, arith}
 use Rattle.model_split.specs.Numbering.{rank}
