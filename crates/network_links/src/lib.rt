@@ -12,10 +12,15 @@ ghost use Rattle.network_links.specs.Stages.{LinksAsked, LinksHeld, MovementsAsk
 
 use base_search::{Reason, Refusal, checked};
 use model::Signal;
-use network_tables::{Counts, Link, MAX_LINKS, Movement, Reading, read_rows};
+use network_tables::{Counts, Link, MAX_LINKS, Movement, Reading, WHOLE_SHARE, read_rows};
+
+// The greatest capacity and travel time of a link.
+const MAX_CAPACITY: u32 = 2_000_000_000;
+
+const MAX_TRAVEL_TIME: u32 = 3600;
 
 // The greatest exit rate of a link, and rate of a movement.
-const MAX_RATE: u32 = 10000;
+const MAX_RATE: u32 = 10_000;
 
 // Refusal 4: a link without a signal has no phase; one with a signal has a phase, and none above the signal's number of phases.
 fn valid_mask(mask: u32, signal: usize, signals: &[Signal]) -> bool
@@ -38,8 +43,8 @@ fn valid_link(link: Link, signals: &[Signal]) -> bool
     if signals.len() < signal {
         return false;
     }
-    (link.capacity <= 2000000000)
-        & (1..=3600).contains(&link.travel_time)
+    (link.capacity <= MAX_CAPACITY)
+        & (1..=MAX_TRAVEL_TIME).contains(&link.travel_time)
         & (link.exit_rate <= MAX_RATE)
         & valid_mask(link.phase_mask, signal, signals)
         & (link.standing <= link.capacity)
@@ -91,7 +96,7 @@ fn valid_movement(movements: &[Movement], links: usize, j: usize) -> bool
         & (1..=links).contains(&to)
         & (from != to)
         & (1..=MAX_RATE).contains(&movement.rate)
-        & (1..=1000).contains(&movement.share)
+        & (1..=WHOLE_SHARE).contains(&movement.share)
         & pair_rises(movements, j)
 }
 
@@ -151,12 +156,12 @@ fn add_shares(movements: &[Movement], sums: &mut [u64])
     }
 }
 
-// Refusal 5: the last movement of a link whose shares don't sum to 1000.
+// Refusal 5: the last movement of a link whose shares don't sum to the whole.
 fn bad_shares(movements: &[Movement], link: usize, sum: u64) -> Option<usize>
     requires { sum ≡ share_sum_in movements.now (length movements.now) link }
     ensures { BadShares movements.now link result }
 {
-    if sum == 1000 {
+    if sum == u64::from(WHOLE_SHARE) {
         return None;
     }
     last_movement(movements, link)

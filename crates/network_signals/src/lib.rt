@@ -15,8 +15,8 @@ ghost use Rattle.network_signals.specs.Stages.{SignalAsked, SignalHeld, SignalsA
 use base_search::{Reason, Refusal};
 use model::{SIGNAL_FIELDS, Signal};
 use network_tables::{
-    COUNT_FIELDS, Counts, MAX_LINKS, MAX_MOVEMENTS, MAX_PAST, MAX_SIGNALS, MAX_STEPS, MAX_TRAMS,
-    Reading,
+    COUNT_FIELDS, Counts, MAX_LINKS, MAX_MOVEMENTS, MAX_PAST, MAX_SECONDS, MAX_SIGNALS, MAX_STEPS,
+    MAX_TRAMS, Reading,
 };
 
 // How many numbers a `G` line has before those of its phases.
@@ -156,7 +156,7 @@ pub fn read_signals(
     ensures { Judged (block_checks (signal_block (lines text.now))) (SignalsHeld text.now signals.new) result }
 {
     let mut place = reading.next;
-    let mut shortest = 60;
+    let mut shortest = MAX_SECONDS;
     for r in 0..reading.counts.signals {
         let passed = read_signal(text, reading.moved_to(place), r, signals)?;
         shortest = shortest_time(signals[r], shortest);

@@ -8,20 +8,23 @@ ghost use Rattle.network_tables.specs.Blocks.{block_checks, step_block};
 ghost use Rattle.network_steps.specs.Steps.{valid_demands_in, valid_step_in, AddAsked, Added, StepsAsked, StepsHeld};
 
 use base_search::{Reason, Refusal};
-use network_tables::{Reading, STEP_SIZE};
+use network_tables::{MAX_SECONDS, Reading, STEP_SIZE};
+
+// The greatest demand of a link in a step.
+const MAX_DEMAND: u32 = 600_000;
 
 // Refusal 6: whether each demand is at most 600,000.
 fn valid_demands(demands: &[u32]) -> bool
     ensures { result ≡ valid_demands_in demands.now }
 {
-    demands.iter().all(|demand| *demand <= 600_000)
+    demands.iter().all(|demand| *demand <= MAX_DEMAND)
 }
 
 // Refusal 6: whether the length is 1 to 60 and at most the shortest of all greatest times, and the demands are valid.
 fn valid_step(seconds: u32, demands: &[u32], shortest: u32) -> bool
     ensures { result ≡ valid_step_in seconds demands.now shortest }
 {
-    (1..=60).contains(&seconds) & (seconds <= shortest) & valid_demands(demands)
+    (1..=MAX_SECONDS).contains(&seconds) & (seconds <= shortest) & valid_demands(demands)
 }
 
 // Adds the demand of each link in a step to its sum, which fits 32 bits.

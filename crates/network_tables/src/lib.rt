@@ -28,6 +28,12 @@ pub const MAX_TRAMS: usize = 16;
 
 pub const MAX_PAST: usize = 120;
 
+// The most seconds of a step.
+pub const MAX_SECONDS: u32 = 60;
+
+// What the shares of a link's movements sum to, in thousandths.
+pub const WHOLE_SHARE: u32 = 1000;
+
 // How many numbers an `N`, a `T`, a `Q` and an `M` line have, and at most an `H`, an `S` and a `P` line.
 pub const COUNT_FIELDS: usize = 6;
 

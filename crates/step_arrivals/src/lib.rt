@@ -6,12 +6,14 @@ ghost use Rattle.std.specs.Prelude.{◌≡◌, ◌+◌, ◌-◌, ◌<◌, ◌≤
 ghost use Rattle.step_arrivals.specs.Arrivals.{arrival_step_in, seconds_in, elapsed_in, scaled_in, Cursor};
 ghost use Rattle.step_arrivals.specs.Timed.{TimeAsked, TimeSet};
 
+use network_tables::MAX_SECONDS;
+
 // Sets the time at the end of step `m`, if it and all steps before it last 1 to 60 seconds; else the table is kept.
 pub fn next_time(times: &mut [u32], m: usize, seconds: u32, timed: bool) -> bool
     requires { TimeAsked times.old m timed }
     ensures { TimeSet times.old m seconds timed result times.new }
 {
-    let valid = timed & (1..=60).contains(&seconds);
+    let valid = timed & (1..=MAX_SECONDS).contains(&seconds);
     if valid {
         times[m + 1] = times[m] + seconds;
     }

@@ -5,7 +5,7 @@ ghost use Rattle.std.specs.Prelude.{◌≡◌, ◌+◌, ◌<◌, true};
 ghost use Rattle.network_tables.specs.Fields.{let_out_in, left_in};
 ghost use Rattle.step_sums.specs.Sums.{keeps_share, entered_before, entered_after, leaves_arrived, fits_capacity, sum_rule_number, sum_items, sum_rule_holds, SharesKept, LinkSumsKept, SumsKept, SumRows};
 
-use network_tables::{Counts, entered, entered_at, left, let_out, moved};
+use network_tables::{Counts, WHOLE_SHARE, entered, entered_at, left, let_out, moved};
 use step_rows::Step;
 
 // What rules 16 to 18 read: a step, the row before it, and the row after it, in which left of each link is what the step's line makes of it.
@@ -47,7 +47,7 @@ impl StepRows<'_> {
         }
         let all = self.moved_from(self.step.from_link(j));
         let share = self.step.movements[j].share;
-        network_tables::times(1000, volume) <= network_tables::times(share, all)
+        network_tables::times(WHOLE_SHARE, volume) <= network_tables::times(share, all)
     }
 
     // Entered of link i at the start of the step of the timeline in which its travel time ends: a past one's as it arrived, a later one's as the ledger has it.
