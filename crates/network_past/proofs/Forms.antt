@@ -1,5 +1,5 @@
 -- The turns of the loop over the `H` lines.
-use Rattle.base_laws.proofs.Kit.{ℕ, suc, ◌+◌, ◌*◌, ◌≤◌, ◌<◌, ◌≡◌, refl, sym, ap, ◌∙◌, Bool, true, false, List, add-one, arith, leb-true, leb, length, get_or, set}
+use Rattle.base_laws.proofs.Kit.{ℕ, suc, ◌+◌, ◌*◌, ◌≤◌, ◌<◌, ◌≡◌, refl, sym, ap, ◌∙◌, Bool, true, false, List, ◌++◌, add-one, arith, leb-true, leb, length, take, drop, get_or, set}
 use Rattle.base_search.specs.declared.Refusal.{Refusal}
 use Rattle.base_search.specs.Checks.{refusal, verdict}
 use Rattle.base_search.proofs.Laws.{checked-passes, checked_refused}
@@ -11,6 +11,7 @@ use Rattle.network_tables.specs.declared.Reading.{Reading}
 use Rattle.network_tables.specs.Places.{timeline_line_in}
 use Rattle.network_tables.specs.Fields.{past_size}
 use Rattle.network_tables.specs.Rows.{RowRead}
+use Rattle.network_tables.proofs.Rows.{row_joined}
 use Rattle.network_tables.specs.Blocks.{block_checks, ReadTo, past_block}
 use Rattle.network_tables.specs.Tables.{Judged, PastNumbers}
 use Rattle.network_tables.proofs.Tables.{past-length-at}
@@ -75,25 +76,30 @@ module _ {text : List ℕ} {reading : Reading} {times₀ : List ℕ} (asked : Fo
       below : m < past_count (lines text)
       below = omega (arith, asked.reached.counted.past)
 
-      module _ {width : ℕ} (w : width ≡ 1 + 2 * reading.counts.links) {r : (Option ℕ)} {after : List ℕ} (row : RowRead letter_h width text at 0 fields r after) where
+      module _ {width : ℕ} (w : width ≡ 1 + 2 * reading.counts.links) {r : (Option ℕ)} {part : List ℕ}
+          (read : RowRead letter_h (length (take width fields)) text at (take width fields) r part) where
+        -- the row, whose first numbers were read
+        abbrev after : List ℕ
+        after = part ++ drop width fields
+
         wide : width ≡ 1 + 2 * link_count (lines text)
         wide = omega (arith, w, asked.reached.counted.links)
 
-        own : RowRead letter_h (1 + 2 * link_count (lines text)) text at 0 fields r after
-        own = rw wide at row
+        row : RowRead letter_h (1 + 2 * link_count (lines text)) text at fields r after
+        row = rw (← wide) (row_joined (omega (arith, w, inv.field-size, asked.reached.counted.few.links)) read)
 
         pub forms-malformed : r ≡ None → {line : ℕ} {q : Refusal} → line ≡ timeline_line_in reading.counts m → q ≡ refusal 1 (line + 1) 0
             → Judged (block_checks (past_block (lines text))) (FormsHeld text times) (Err q)
         unfolding verdict past_checks
         forms-malformed e {line} l t =
             let told : line + 1 ≡ suc (timeline_line (lines text) m) = omega (arith, timeline-line-is asked.reached.counted m) in
-            rw (t, told) (judged-refused (passed-stop inv.read.passed below (checked_refused _ 1 _ 0 (own.malformed e (timeline_line (lines text) m) inv.read.starts))))
+            rw (t, told) (judged-refused (passed-stop inv.read.passed below (checked_refused _ 1 _ 0 (row.malformed e (timeline_line (lines text) m) inv.read.starts))))
 
         pub forms-next : {next : ℕ} → r ≡ Some next → {seconds : ℕ} → seconds ≡ get_or after 0 0 → {timed' : Bool} {times' : List ℕ} → TimeSet times m seconds timed timed' times'
             → FormsTo text times' after next timed' (m + 1)
         unfolding verdict past_checks
         forms-next {next} e {seconds} s {timed'} got =
-            let line = own.held next e (timeline_line (lines text) m) inv.read.starts in
+            let line = row.held next e (timeline_line (lines text) m) inv.read.starts in
             let numbers : PastNumbers (lines text) m after = past-numbers m line (row.size ∙ inv.field-size) in
             let lasts : seconds ≡ timeline_length (lines text) m = s ∙ past-length-at numbers in
             record {
