@@ -1,47 +1,56 @@
 -- The rules of a signal together, and that they keep it ready for the next step.
-use Rattle.base_laws.proofs.Kit.{ℕ, ◌+◌, ◌-◌, ◌≤◌, ◌<◌, ◌≡◌, refl, Bool, true, false, not, ◌&&◌, ◌||◌, le_trans, arith, leb, eqb, get_or, leb-true, eqb-true}
+use Rattle.base_laws.proofs.Kit.{⊎_elim, ℕ, ◌+◌, ◌-◌, ◌≤◌, ◌<◌, ◌≡◌, refl, Bool, true, false, not, ◌&&◌, ◌||◌, le_trans, arith, leb, eqb, get_or, leb-true, eqb-true}
 use Rattle.model.specs.declared.Signal.{Signal}
 use Rattle.base_laws.specs.Test.{◌and◌, ◌or◌, within}
-use Rattle.model.specs.Signals.{greatest_time, begins_cycle, shown_for_after, clock_after, keeps_greatest_time, keeps_cycle, after}
+use Rattle.model.specs.Signals.{shows_one_phase, greatest_time, begins_cycle, shown_for_after, clock_after, keeps_greatest_time, keeps_cycle, after}
 use Rattle.model.specs.Rules.{valid_phases, valid_signal}
-use Rattle.base_laws.proofs.Tests.{and_left, and_right, every-at}
+use Rattle.base_laws.proofs.Tests.{and_left, and_right, either_way, every-at}
 use Rattle.step_signals.specs.declared.SignalRule.{SignalRule}
 use Rattle.step_signals.specs.declared.SignalRule.TheVariants.{OnePhase, TramPhase, Order, LeastTime, GreatestTime, Cycle}
 use Rattle.step_signals.specs.Ready.{Ready}
-use Rattle.step_signals.specs.Rules.{signal_test, keeps_all, goes_on}
+use Rattle.step_signals.specs.Rules.{signal_test, keeps_ordinary_rules, keeps_all, goes_on}
 
 -- a signal that keeps them all keeps each
-either : (a b c : Bool) → (b ≡ true → c ≡ true) → a or b ≡ true → a or c ≡ true
-unfolding ◌or◌
-either true b c f h = refl
-either false b c f h = f h
+module _ (s : Signal) (q asked seconds : ℕ) where
+  in_ordinary : eqb asked 0 ≡ true → keeps_ordinary_rules s q seconds ≡ true → (rule : SignalRule) → signal_test rule s q asked seconds ≡ true
+  unfolding keeps_ordinary_rules signal_test ◌or◌
+  in_ordinary e h OnePhase = and_left _ _ (and_left _ _ h)
+  in_ordinary e h TramPhase = rw e
+  in_ordinary e h Order = rw e (and_left _ _ (and_right _ _ (and_left _ _ h)))
+  in_ordinary e h LeastTime = rw e (and_right _ _ (and_right _ _ (and_left _ _ h)))
+  in_ordinary e h GreatestTime = rw e (and_left _ _ (and_right _ _ h))
+  in_ordinary e h Cycle = rw e (and_right _ _ (and_right _ _ h))
 
-pub keeps-each : (s : Signal) (q asked seconds : ℕ) → keeps_all s q asked seconds ≡ true → (rule : SignalRule) → signal_test rule s q asked seconds ≡ true
-unfolding keeps_all signal_test
-keeps-each s q asked seconds h OnePhase = and_left _ _ (and_left _ _ h)
-keeps-each s q asked seconds h TramPhase = and_right _ _ (and_left _ _ h)
-keeps-each s q asked seconds h Order = either _ _ _ (λ e. and_left _ _ (and_left _ _ e)) (and_right _ _ h)
-keeps-each s q asked seconds h LeastTime = either _ _ _ (λ e. and_right _ _ (and_left _ _ e)) (and_right _ _ h)
-keeps-each s q asked seconds h GreatestTime = either _ _ _ (λ e. and_left _ _ (and_right _ _ e)) (and_right _ _ h)
-keeps-each s q asked seconds h Cycle = either _ _ _ (λ e. and_right _ _ (and_right _ _ e)) (and_right _ _ h)
+  in_trams : eqb asked 0 ≡ false → shows_one_phase q and eqb q asked ≡ true → (rule : SignalRule) → signal_test rule s q asked seconds ≡ true
+  unfolding signal_test ◌or◌
+  in_trams e h OnePhase = and_left _ _ h
+  in_trams e h TramPhase = rw e (and_right _ _ h)
+  in_trams e h Order = rw e
+  in_trams e h LeastTime = rw e
+  in_trams e h GreatestTime = rw e
+  in_trams e h Cycle = rw e
 
--- one that goes on keeps them all
+  pub keeps-each : keeps_all s q asked seconds ≡ true → (rule : SignalRule) → signal_test rule s q asked seconds ≡ true
+  unfolding keeps_all
+  keeps-each h = ⊎_elim (λ e. in_ordinary e (search (h, e))) (λ e. in_trams e (search (h, e))) (either_way (eqb asked 0))
+
+-- one that goes on keeps the rules of an ordinary step
 never_both : (b : Bool) → b && not b ≡ false
 never_both true = refl
 never_both false = refl
 
-keeps-by : (s : Signal) (q asked seconds : ℕ) → leb 1 q ≡ true → eqb q s.shown ≡ true → eqb asked 0 ≡ true → leb (s.shown_for + seconds) (greatest_time s q) ≡ true
-    → leb (s.cycle_clock + seconds) s.greatest_cycle ≡ true → begins_cycle s q ≡ false → keeps_all s q asked seconds ≡ true
-unfolding keeps_all ◌and◌ ◌or◌
-keeps-by s q asked seconds one same tram run clock begins = rw (begins, one, same, tram, run, clock)
+keeps-by : (s : Signal) (q seconds : ℕ) → leb 1 q ≡ true → eqb q s.shown ≡ true → leb (s.shown_for + seconds) (greatest_time s q) ≡ true
+    → leb (s.cycle_clock + seconds) s.greatest_cycle ≡ true → begins_cycle s q ≡ false → keeps_ordinary_rules s q seconds ≡ true
+unfolding keeps_ordinary_rules ◌and◌
+keeps-by s q seconds one same run clock begins = rw (begins, one, same, run, clock)
 
-pub goes-keeps : (s : Signal) (q asked seconds : ℕ) → goes_on s q asked seconds ≡ true → keeps_all s q asked seconds ≡ true
+pub goes-keeps : (s : Signal) (q seconds : ℕ) → goes_on s q seconds ≡ true → keeps_ordinary_rules s q seconds ≡ true
 unfolding goes_on
-goes-keeps s q asked seconds h =
+goes-keeps s q seconds h =
     let runs = and_left _ _ h in
-    let ordinary = and_left _ _ runs in
-    let same : eqb q s.shown ≡ true = and_right _ _ (and_left _ _ ordinary) in
-    keeps-by s q asked seconds (and_left _ _ (and_left _ _ ordinary)) same (and_right _ _ ordinary) (and_right _ _ runs) (and_right _ _ h)
+    let goes = and_left _ _ runs in
+    let same : eqb q s.shown ≡ true = and_right _ _ goes in
+    keeps-by s q seconds (and_left _ _ goes) same (and_right _ _ runs) (and_right _ _ h)
     (rw (← eqb-true q s.shown same) (never_both (eqb q 1)))
 
 -- a signal that passes the network's check is ready for the first step

@@ -1,5 +1,5 @@
 -- Rules 10, 29 and 11 to 14 by the program's tables. A tram asks a phase of a signal, 0 in an ordinary step.
-use Rattle.std.specs.Prelude.{ℕ, ◌+◌, ◌≤◌, ◌<◌, ◌≡◌, Bool, true, not, List, leb, eqb, length, get_or}
+use Rattle.std.specs.Prelude.{ℕ, ◌+◌, ◌≤◌, ◌<◌, ◌≡◌, Bool, true, not, cond, List, leb, eqb, length, get_or}
 use Rattle.base_laws.specs.Test.{◌and◌, ◌or◌}
 use Rattle.model.specs.declared.Signal.{Signal}
 use Rattle.model.specs.Network.{max_signals}
@@ -27,17 +27,17 @@ signal_test LeastTime s q asked seconds = not (eqb asked 0) or keeps_least_time 
 signal_test GreatestTime s q asked seconds = not (eqb asked 0) or keeps_greatest_time s q seconds
 signal_test Cycle s q asked seconds = not (eqb asked 0) or keeps_cycle s q seconds
 
--- all six hold
-unfoldable pub keeps_all : Signal → ℕ → ℕ → ℕ → Bool
-keeps_all s q asked seconds =
-    shows_one_phase q
-    and (eqb asked 0 or eqb q asked)
-    and (not (eqb asked 0) or keeps_order s q and keeps_least_time s q and (keeps_greatest_time s q seconds and keeps_cycle s q seconds))
+-- the rules of an ordinary step hold: 10 to 14
+unfoldable pub keeps_ordinary_rules : Signal → ℕ → ℕ → Bool
+keeps_ordinary_rules s q seconds = shows_one_phase q and (keeps_order s q and keeps_least_time s q) and (keeps_greatest_time s q seconds and keeps_cycle s q seconds)
 
--- it goes on with its phase in an ordinary step, and neither the phase nor the cycle lasts too long
-unfoldable pub goes_on : Signal → ℕ → ℕ → ℕ → Bool
-goes_on s q asked seconds =
-    shows_one_phase q and eqb q s.shown and eqb asked 0 and leb (s.shown_for + seconds) (greatest_time s q) and leb (s.cycle_clock + seconds) s.greatest_cycle
+-- all six hold: 10 to 14 in an ordinary step, 10 and 29 where a tram asks a phase
+unfoldable pub keeps_all : Signal → ℕ → ℕ → ℕ → Bool
+keeps_all s q asked seconds = cond (eqb asked 0) (keeps_ordinary_rules s q seconds) (shows_one_phase q and eqb q asked)
+
+-- it goes on with its phase, and neither the phase nor the cycle lasts too long
+unfoldable pub goes_on : Signal → ℕ → ℕ → Bool
+goes_on s q seconds = shows_one_phase q and eqb q s.shown and leb (s.shown_for + seconds) (greatest_time s q) and leb (s.cycle_clock + seconds) s.greatest_cycle
 
 -- a rule holds of signal r, where signals show these phases, and trams ask these
 unfoldable pub signal_rule_holds : List Signal → List ℕ → List ℕ → ℕ → SignalRule → ℕ → Bool

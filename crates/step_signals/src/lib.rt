@@ -7,7 +7,7 @@ ghost use Rattle.std.specs.Prelude.{◌≡◌, true, ◌-◌, ◌^◌, ◌≤◌
 ghost use Rattle.model.specs.Network.{max_signals};
 ghost use Rattle.model.specs.Signals.{phase_of, opens, next_phase, begins_cycle, shown_for_after, clock_after, keeps_order, keeps_least_time, keeps_greatest_time, keeps_cycle, after};
 ghost use Rattle.step_signals.specs.Ready.{Ready, AllReady};
-ghost use Rattle.step_signals.specs.Rules.{signal_rule_number, signal_test, keeps_all, goes_on, SignalRulesKept, SignalTables};
+ghost use Rattle.step_signals.specs.Rules.{signal_rule_number, signal_test, keeps_ordinary_rules, keeps_all, goes_on, SignalRulesKept, SignalTables};
 ghost use Rattle.step_signals.specs.Step.{ShownPhases, HeldMasks, stepped, AdvanceAsked, Advanced};
 
 use model::Signal;
@@ -25,7 +25,7 @@ pub enum SignalRule {
 
 // The phase, among 1 to `phases`, whose bit is all of the mask; 0 where there is none, which breaks rule 10 (C7). The count of ones tests that one
 // bit is set; the trailing zeros are its place. A number and not an option: tables of options, for what is shown and what trams ask, cost the largest plan 2.2 % more,
-// 1.49 x the twin (the C check of bench/twin.c), past the bar of 1.45 x.
+// 1.47 x the twin (the C check of bench/twin.c), past the bar of 1.45 x.
 pub fn phase_of(mask: u32, phases: u32) -> u32
     ensures { result ≡ phase_of mask phases }
 {
@@ -205,46 +205,45 @@ impl SignalRule {
     }
 }
 
-// Whether a signal that shows a phase keeps all six rules. Rules 12 and 13 are said anew, with the two times read through the reference: by their own tests, which take the
-// signal by value, the corridor's plan cost 0.7 % more and the largest 0.4 %, against the bars of 6,800 on the corridor and 1.45 x the twin on the largest. Not inlined, for check_plan's speed
-// (docs/MEASUREMENTS.md). Phase, asked and seconds go beside the signal here and below: a struct of them would be made anew for each signal.
+// Whether a signal that shows a phase keeps rules 10 to 14, as an ordinary step asks. Not inlined, for check_plan's speed (docs/MEASUREMENTS.md).
+// Phase, asked and seconds go beside the signal here and below: a struct of them would be made anew for each signal.
 #[inline(never)]
-fn keeps_all(signal: &Signal, phase: u32, asked: u32, seconds: u32) -> bool
+fn keeps_ordinary_rules(signal: &Signal, phase: u32, seconds: u32) -> bool
     requires ready { Ready signal.now }
     requires phase_bound { phase ≤ 8 }
     requires seconds_bound { seconds ≤ 60 }
-    ensures { result ≡ keeps_all signal.now phase asked seconds }
+    ensures { result ≡ keeps_ordinary_rules signal.now phase seconds }
 {
-    let least = signal.least[place_of(signal.shown)];
-    let left_in_time = (phase == signal.shown) | (least <= signal.shown_for);
-    let ordered = keeps_order(*signal, phase) & left_in_time;
-    let greatest = signal.greatest[place_of(phase)];
-    let runs_in_time = shown_for_after(*signal, phase, seconds) <= greatest;
-    let timed = runs_in_time & keeps_cycle(*signal, phase, seconds);
-    (1 <= phase) & ((asked == 0) | (phase == asked)) & ((asked != 0) | (ordered & timed))
+    let ordered = keeps_order(*signal, phase) & keeps_least_time(*signal, phase);
+    let timed = keeps_greatest_time(*signal, phase, seconds) & keeps_cycle(*signal, phase, seconds);
+    (1 <= phase) & ordered & timed
 }
 
-// Whether a signal goes on with its phase in an ordinary step, and neither the phase nor the cycle lasts too long. Then it keeps all six, as most do in most steps: without
-// this test the largest plan cost 1.2 % more, and with rule 13 by its own test 0.4 %, against the bar of 1.45 x the twin.
-fn goes_on(signal: &Signal, phase: u32, asked: u32, seconds: u32) -> bool
+// Whether a signal goes on with its phase, and neither the phase nor the cycle lasts too long. Then it keeps rules 10 to 14, as most do in most steps: without this
+// test the largest plan cost 1.2 % more, against the bar of 1.45 x the twin. With rule 13 by its own test the corridor's plan takes 6,812 instructions, above the bar
+// of 6,800.
+fn goes_on(signal: &Signal, phase: u32, seconds: u32) -> bool
     requires ready { Ready signal.now }
     requires phase_bound { phase ≤ 8 }
     requires seconds_bound { seconds ≤ 60 }
-    ensures { result ≡ goes_on signal.now phase asked seconds }
+    ensures { result ≡ goes_on signal.now phase seconds }
 {
-    let goes = (1 <= phase) & (phase == signal.shown) & (asked == 0);
+    let goes = (1 <= phase) & (phase == signal.shown);
     let in_time = signal.shown_for + seconds <= signal.greatest[place_of(phase)];
     goes & in_time & (signal.cycle_clock + seconds <= signal.greatest_cycle)
 }
 
-// Whether a signal keeps all six: asked first whether it goes on.
+// Whether a signal keeps all six: where a tram asks a phase of it, 10 and 29; else asked first whether it goes on.
 fn signal_keeps(signal: &Signal, phase: u32, asked: u32, seconds: u32) -> bool
     requires ready { Ready signal.now }
     requires phase_bound { phase ≤ 8 }
     requires seconds_bound { seconds ≤ 60 }
     ensures { result ≡ keeps_all signal.now phase asked seconds }
 {
-    goes_on(signal, phase, asked, seconds) || keeps_all(signal, phase, asked, seconds)
+    if asked != 0 {
+        return (1 <= phase) & (phase == asked);
+    }
+    goes_on(signal, phase, seconds) || keeps_ordinary_rules(signal, phase, seconds)
 }
 
 // Whether all signals keep the six rules, in one pass over them: most steps break none, and then it doesn't matter which rule is asked first. The count stands beside the
