@@ -1,5 +1,5 @@
 -- The ways out of the call, by the definitions.
-use Rattle.base_laws.proofs.Kit.{ℕ, ◌≤◌, ◌<◌, ◌≡◌, refl, sym, ◌∙◌, Bool, true, false, List, [], arith}
+use Rattle.base_laws.proofs.Kit.{ℕ, ◌/◌, ◌^◌, ◌≤◌, ◌<◌, ◌≡◌, refl, sym, ◌∙◌, Bool, true, false, List, [], arith}
 use Rattle.base_search.specs.declared.Refusal.{Refusal}
 use Rattle.base_search.specs.Checks.{refusal, or_else, checked, verdict, Hold, Verdict}
 use Rattle.base_search.proofs.Laws.{or-else-passes, or-else-refused, checked-passes, checked_refused, passes-of-hold, hold-of-passes}
@@ -104,37 +104,37 @@ module _ {whole : Whole} (p : Passed whole) where
 
   module _ {halves : Halves} {can : Bool} (c : SplitTold (whole_network whole) halves can) where
     -- the test told is that of the definitions, before the others
-    judged-by : (set : ℕ) → HalvesBy (whole_network whole) set halves → verdict (part_checks (whole_network whole) (whole_plan whole) set)
+    judged-by : (set : ℕ) → halves.above ≡ set / 2 ^ link_count (whole_network whole) → HalvesBy (whole_network whole) set halves → verdict (part_checks (whole_network whole) (whole_plan whole) set)
         ≡ or_else (checked can 40 0 0) (or_else (checked (parts_signals (whole_network whole) (in_set set)) 41 0 0) (verdict (form_checks (whole_network whole) (whole_plan whole))))
     unfolding part_checks verdict
-    judged-by set by = or-else-passes _ _ (passes-of-hold (network_checks (whole_network whole)) p.holds) ∙ rw (← c set by) refl
+    judged-by set above by = or-else-passes _ _ (passes-of-hold (network_checks (whole_network whole)) p.holds) ∙ rw (← c set above by) refl
 
     -- 40
     pub no-split : {r : Refusal} → checked can 40 0 0 ≡ Err r → HalvesJudged whole halves (Err r)
-    no-split e set by = sym (judged-by set by ∙ or-else-refused _ _ _ e)
+    no-split e set above by = sym (judged-by set above by ∙ or-else-refused _ _ _ e)
 
     module _ (y : checked can 40 0 0 ≡ Ok tt) {parts : Bool} (s : PartsTold whole.tables halves.first parts) where
-      then-parts : (set : ℕ) → HalvesBy (whole_network whole) set halves → verdict (part_checks (whole_network whole) (whole_plan whole) set)
+      then-parts : (set : ℕ) → halves.above ≡ set / 2 ^ link_count (whole_network whole) → HalvesBy (whole_network whole) set halves → verdict (part_checks (whole_network whole) (whole_plan whole) set)
           ≡ or_else (checked parts 41 0 0) (verdict (form_checks (whole_network whole) (whole_plan whole)))
-      then-parts set by = judged-by set by ∙ or-else-passes _ _ y ∙ rw (← s (whole_network whole) p.holds p.counted.links p.link-table set by.first) refl
+      then-parts set above by = judged-by set above by ∙ or-else-passes _ _ y ∙ rw (← s (whole_network whole) p.holds p.counted.links p.link-table set by.first) refl
 
       -- 41
       pub no-parts : {r : Refusal} → checked parts 41 0 0 ≡ Err r → HalvesJudged whole halves (Err r)
-      no-parts e set by = sym (then-parts set by ∙ or-else-refused _ _ _ e)
+      no-parts e set above by = sym (then-parts set above by ∙ or-else-refused _ _ _ e)
 
       -- 9, or none
       pub form-judged : checked parts 41 0 0 ≡ Ok tt → {v : Verdict} → FormTold whole.plan.now whole.signals.now whole.tables.reading.counts v → HalvesJudged whole halves v
-      form-judged z form set by =
+      form-judged z form set above by =
           form whole.tables.text.now (record { holds = p.holds; counted = p.counted; signal-table = p.signal-table })
-          ∙ sym (then-parts set by ∙ or-else-passes _ _ z)
+          ∙ sym (then-parts set above by ∙ or-else-passes _ _ z)
 
   -- ---- `split_loaded`
-  module _ (set : ℕ) {halves : Halves} (numbered : HalvesNumbered set whole.tables halves) {v : Verdict} (j : HalvesJudged whole halves v) where
+  module _ (set : ℕ) {halves : Halves} (above : halves.above ≡ set / 2 ^ whole.tables.reading.counts.links) (numbered : HalvesNumbered set whole.tables halves) {v : Verdict} (j : HalvesJudged whole halves v) where
     by-set : HalvesBy (whole_network whole) set halves
     by-set = numbered (whole_network whole) p.counted p.link-table p.movement-table
 
     judged-is : verdict (part_checks (whole_network whole) (whole_plan whole) set) ≡ v
-    judged-is = sym (j set by-set)
+    judged-is = sym (j set (rw p.counted.links at above) by-set)
 
     -- 40, 41 or 9
     pub judged-refused : (before : Buffers) {r : Refusal} → v ≡ Err r → SplitGot whole.tables.text.now whole.plan.now set before before (Err r)

@@ -14,7 +14,7 @@ use Rattle.model_split.specs.Splits.{Buffers, room_of}
 use Rattle.split_tables.specs.declared.Whole.{Whole}
 use Rattle.split_tables.specs.declared.Halves.{Halves}
 use Rattle.split_tables.specs.Whole.{whole_network, whole_plan}
-use Rattle.split_text.specs.Halves.{OneHalf, PlanPut, NetworkPut}
+use Rattle.split_text.specs.Halves.{OneHalf, Held, PlanPut, NetworkPut}
 use Rattle.split.specs.Splitting.{buffers, BothHalves, Measured, fits, HalvesWritten}
 use Rattle.std.specs.Prelude.{Ok, Err}
 
@@ -54,16 +54,16 @@ module _ (whole : Whole) {halves : Halves} {found : Lengths} (m : Measured whole
       }
 
 -- ---- both halves were put
-module _ (whole : Whole) (halves : Halves) {old₁ new₁ old₂ new₂ old₃ new₃ old₄ new₄ : List ℕ} {n₁ n₂ n₃ n₄ : ℕ} (f₁ : NetworkPut whole halves.first old₁ new₁ n₁) (f₂ : PlanPut whole halves.first old₂ new₂ n₂)
+module _ (whole : Whole) (held : Held whole.tables.text.now whole) (halves : Halves) {old₁ new₁ old₂ new₂ old₃ new₃ old₄ new₄ : List ℕ} {n₁ n₂ n₃ n₄ : ℕ} (f₁ : NetworkPut whole halves.first old₁ new₁ n₁) (f₂ : PlanPut whole halves.first old₂ new₂ n₂)
     (s₁ : NetworkPut whole halves.second old₃ new₃ n₃) (s₂ : PlanPut whole halves.second old₄ new₄ n₄) where
   module _ (set : ℕ) (b : BothHalves (whole_network whole) set halves) where
     first-put : PutWhole (network_text₁ (whole_network whole) (whole_plan whole) set) old₁ new₁ n₁ × PutWhole (plan_text₁ (whole_network whole) (whole_plan whole) set) old₂ new₂ n₂
     unfolding network_text₁ plan_text₁
-    first-put = let one = first_one whole b in (f₁ set _ one, f₂ set _ one)
+    first-put = let one = first_one whole b in (f₁ set _ one, f₂ whole.tables.text.now held set _ one)
 
     second-put : PutWhole (network_text₂ (whole_network whole) (whole_plan whole) set) old₃ new₃ n₃ × PutWhole (plan_text₂ (whole_network whole) (whole_plan whole) set) old₄ new₄ n₄
     unfolding network_text₂ plan_text₂
-    second-put = let one = second-one whole b in (s₁ set _ one, s₂ set _ one)
+    second-put = let one = second-one whole b in (s₁ set _ one, s₂ whole.tables.text.now held set _ one)
 
   -- ---- `measure`
   pub measured : Measured whole halves (record { network_1 = n₁; plan_1 = n₂; network_2 = n₃; plan_2 = n₄ })

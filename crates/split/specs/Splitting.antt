@@ -1,11 +1,11 @@
 -- What the call asks and promises of a network that has passed.
-use Rattle.std.specs.Prelude.{ℕ, ◌≡◌, Bool, true, false, List, leb, Result, Ok, Err}
+use Rattle.std.specs.Prelude.{ℕ, ◌/◌, ◌^◌, ◌≡◌, Bool, true, false, List, leb, Result, Ok, Err}
 use Rattle.base_search.specs.declared.Refusal.{Refusal}
 use Rattle.base_search.specs.Checks.{refusal, verdict, Hold, Verdict}
 use Rattle.text_reader.specs.Lines.{Line, lines}
 use Rattle.text_reader.specs.Reading.{Starts, over}
 use Rattle.base_laws.specs.Test.{◌and◌}
-use Rattle.model.specs.Network.{tram_line, step_line}
+use Rattle.model.specs.Network.{link_count, tram_line, step_line}
 use Rattle.model.specs.Table.{network_checks}
 use Rattle.model.specs.Hold.{plan_of}
 use Rattle.network_tables.specs.Tables.{CountsHold, LinkTable, MovementTable, SignalTable}
@@ -49,7 +49,8 @@ pub record Passed (whole : Whole) : Type 0 where
 -- the verdict before 42, of every set whose halves these are
 abbrev pub HalvesJudged : Whole → Halves → Verdict → Type 0
 HalvesJudged whole halves told =
-    (set : ℕ) → HalvesBy (whole_network whole) set halves → told ≡ verdict (part_checks (whole_network whole) (whole_plan whole) set)
+    (set : ℕ) → halves.above ≡ set / 2 ^ link_count (whole_network whole) → HalvesBy (whole_network whole) set halves
+    → told ≡ verdict (part_checks (whole_network whole) (whole_plan whole) set)
 
 -- the two halves of a network that can be split, by their tables
 pub record BothHalves (network : List Line) (set : ℕ) (halves : Halves) : Type 0 where
@@ -60,7 +61,7 @@ pub record BothHalves (network : List Line) (set : ℕ) (halves : Halves) : Type
 -- what the writing of both halves asks
 pub record WriteAsked (whole : Whole) (halves : Halves) : Type 0 where
   pub passed : Passed whole
-  pub held : Held whole
+  pub held : Held whole.tables.text.now whole
   pub set : ℕ
   pub both : BothHalves (whole_network whole) set halves
 

@@ -137,11 +137,11 @@ module _ {whole : Whole} (a : SplitAsked whole) (halves : Halves) where
       → {kinds free : Bool} → kinds ≡ every counts.movements (right_kind_in whole.tables.links.now whole.tables.movements.now first counts.movements)
       → free ≡ every (step_count (whole_network whole)) (step_free (whole_network whole) whole.tables.movements.now first)
       → SplitTold (whole_network whole) halves (eqb halves.above 0 && eqb counts.past 0 && none && own && other && kinds && free)
-  split-told w f s k d set by =
+  split-told w f s k d set above by =
       let c = a.steps-asked.counted in
       let links-there : counts.links ≤ length whole.tables.links.now = omega (arith, whole.tables.sized.link-size, whole.tables.sized.few.links) in
       rw (f, s)
-      (can-told a.steps-asked.holds a.link-table a.steps-asked.movement-table set by.first by.second by.above c.past
+      (can-told a.steps-asked.holds a.link-table a.steps-asked.movement-table set by.first by.second above c.past
       (at_count c.links (λ n. every n (none_wait_in whole.tables.links.now)) (w ∙ none-front whole.tables.links.now counts.links links-there))
       (at_count c.links (rank (is_in first)) refl) (at_count c.links (rank (is_in halves.second.links)) refl)
       (at_count c.movements (λ n. every n (right_kind_in whole.tables.links.now whole.tables.movements.now first n)) k) d)

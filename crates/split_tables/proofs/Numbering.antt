@@ -1,5 +1,8 @@
 -- A half numbered by what it has, and both by the set of links in the first.
-use Rattle.base_laws.proofs.Kit.{ℕ, suc, ◌/◌, ◌^◌, ◌<◌, ◌≡◌, ap, ◌∙◌, Bool, not, List, take, get_or, get_or-take, length, length-take, arith, eqb}
+use Rattle.std.specs.List.{list_any, list_all, enumerate_from}
+use Rattle.std.proofs.lemmas.List.{take_all}
+use Rattle.std.proofs.lemmas.List.FromFn.{length-enumerate_from, get_or-enumerate_from}
+use Rattle.base_laws.proofs.Kit.{ℕ, suc, ◌+◌, ◌<◌, ◌≡◌, refl, ap, ◌∙◌, Bool, true, false, not, ◌&&◌, ◌||◌, List, [], ◌∷◌, take, get_or, get_or-take, length, length-take, arith, eqb}
 use Rattle.text_reader.specs.Lines.{Line}
 use Rattle.base_laws.specs.Test.{◌or◌}
 use Rattle.base_laws.specs.Sum.{only}
@@ -7,9 +10,10 @@ use Rattle.base_laws.proofs.Tests.{every-same}
 use Rattle.model.specs.Network.{link_count, movement_count}
 use Rattle.network_tables.specs.declared.Link.{Link}
 use Rattle.network_tables.specs.declared.NetworkTables.{NetworkTables}
-use Rattle.network_tables.specs.Fields.{movement_at}
+use Rattle.network_tables.specs.Fields.{movement_at, link_by}
 use Rattle.network_tables.specs.Tables.{CountsHold, LinkTable}
 use Rattle.network_tables.proofs.Tables.{signal-of-at, from-link-at, to-link-at}
+use Rattle.network_tables.proofs.Every.{items-every}
 use Rattle.model_split.specs.Numbering.{rank}
 use Rattle.model_split.specs.Halves.{inside, in_second, first_half, second_half}
 use Rattle.model_split.specs.Call.{in_set}
@@ -46,6 +50,38 @@ module _ {tables : NetworkTables} (a : HalvesAsked tables) {links_post signals_p
             told k b p ∙ inside-is h links tables.movements.now links-are table k v (omega (arith, f, from-link-at table k v, counted.links)) (omega (arith, t, to-link-at table k v, counted.links)))).are j (omega (arith, counted.movements));
       }
 
+-- ---- `outside_has`
+any-all : {A : Type 0} (test : A → Bool) (xs : List A) → list_any test xs ≡ not (list_all (λ x. not (test x)) xs)
+any-all test [] = refl
+any-all test (x ∷ xs) = go (test x) (any-all test xs)
+  where
+    go : (b : Bool) → list_any test xs ≡ not (list_all (λ y. not (test y)) xs) → (b || list_any test xs) ≡ not (not b && list_all (λ y. not (test y)) xs)
+    go true e = refl
+    go false e = e
+
+in-or-not : (a b : Bool) → not (not a && b) ≡ (a || not b)
+in-or-not true b = refl
+in-or-not false b = refl
+
+-- a link, with its index, that is not in the set and has signal r
+abbrev pub is_outside_with : ℕ → ℕ → ℕ × Link → Bool
+is_outside_with set r item = not (in_set set item.0) && eqb item.1.signal (suc r)
+
+pub outside-told : (set : ℕ) (links : List Link) (r : ℕ) → list_any (is_outside_with set r) (enumerate_from 0 links) ≡ outside_has set links r
+unfolding outside_has ◌or◌
+outside-told set links r =
+    let n = length links in
+    let items = enumerate_from 0 links in
+    let none : ℕ × Link = (0, link_by (λ k. 0)) in
+    let left-out = λ (item : ℕ × Link). not (is_outside_with set r item) in
+    let size : length items ≡ n = length-enumerate_from 0 links in
+    let all : take n items ≡ items = take_all n items (omega (arith, size)) in
+    any-all (is_outside_with set r) items
+    ∙ ap not (rw all at (items-every left-out items none n (omega (arith, size)))
+    ∙ every-same n _ _ (λ i l.
+    let here : 0 + i ≡ i = omega arith in
+    ap left-out (rw here at (get_or-enumerate_from 0 links i none l)) ∙ in-or-not (in_set set i) _))
+
 -- ---- `number_halves`
 -- the signals with a link outside the first half are those of the second
 pub outside-is : {network : List Line} (tables : NetworkTables) → CountsHold network tables.reading.counts → LinkTable network tables.links.now → (set r : ℕ)
@@ -61,12 +97,11 @@ module _ (set : ℕ) (tables : NetworkTables) {links_post₁ signals_post₁ lin
     (in-first : (i : ℕ) (b : Bool) → links_post₁ i b → b ≡ in_set set i)
     (stays : (r : ℕ) (b : Bool) → signals_post₁ r b → b ≡ not (outside_has set (take tables.reading.counts.links tables.links.now) r))
     (in-second : (i : ℕ) (b : Bool) → links_post₂ i b → b ≡ not (in_set set i))
-    (leaves : (r : ℕ) (b : Bool) → signals_post₂ r b → b ≡ outside_has set (take tables.reading.counts.links tables.links.now) r) {above : ℕ} (e : above ≡ set / 2 ^ tables.reading.counts.links) where
+    (leaves : (r : ℕ) (b : Bool) → signals_post₂ r b → b ≡ outside_has set (take tables.reading.counts.links tables.links.now) r) {above : ℕ} where
   pub halves-numbered : HalvesNumbered set tables (record { first = first; second = second; above = above })
   unfolding first_half second_half
   halves-numbered network counted table moves =
       record {
-        above = rw counted.links at e;
         first = one network counted moves (first_half network (in_set set)) (λ i b l p. in-first i b p) (λ r b l p. stays r b p ∙ ap not (outside-is tables counted table set r));
         second = two network counted moves (second_half network (in_set set)) (λ i b l p. in-second i b p) (λ r b l p. leaves r b p ∙ outside-is tables counted table set r);
       }

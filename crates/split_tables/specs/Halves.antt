@@ -1,8 +1,7 @@
 -- Both halves numbered by the set of links in the first.
-use Rattle.std.specs.Prelude.{ℕ, suc, ◌/◌, ◌^◌, ◌≤◌, ◌<◌, ◌≡◌, Bool, not, List, eqb, length}
+use Rattle.std.specs.Prelude.{ℕ, suc, ◌≤◌, ◌<◌, Bool, not, List, eqb, length}
 use Rattle.text_reader.specs.Lines.{Line}
 use Rattle.base_laws.specs.Test.{◌or◌, every}
-use Rattle.model.specs.Network.{link_count}
 use Rattle.network_tables.specs.declared.Link.{Link}
 use Rattle.network_tables.specs.declared.NetworkTables.{NetworkTables}
 use Rattle.network_tables.specs.Fields.{signal_in, link_in}
@@ -31,7 +30,6 @@ HalfTold tables links_post signals_post half =
 
 -- the halves of a network by the set of links in the first
 pub record HalvesBy (network : List Line) (set : ℕ) (halves : Halves) : Type 0 where
-  pub above : halves.above ≡ set / 2 ^ link_count network
   pub first : HalfNumbered network (first_half network (in_set set)) halves.first
   pub second : HalfNumbered network (second_half network (in_set set)) halves.second
 

@@ -1,7 +1,7 @@
 // The tables of a network's two halves (T-14): the new number of each link, signal and movement in a half, from 1, and 0 for what is not in it.
 #![tactic(auto)]
 
-ghost use Rattle.std.specs.Prelude.{◌≡◌, ℕ, ◌≤◌, ◌<◌, Bool, length};
+ghost use Rattle.std.specs.Prelude.{◌≡◌, ℕ, ◌/◌, ◌^◌, ◌≤◌, ◌<◌, Bool, length};
 ghost use Rattle.model.specs.Network.{max_links, max_movements};
 ghost use Rattle.model_split.specs.Call.{in_set};
 ghost use Rattle.model_split.specs.Numbering.{rank};
@@ -129,20 +129,21 @@ fn in_set(set: u32, i: usize) -> bool
     (set >> i) % 2 == 1
 }
 
-// Whether a link that is not in a set has signal `r`. By `all`, as the definition says it.
+// Whether a link that is not in a set has signal `r`.
 fn outside_has(set: u32, links: &[Link], r: usize) -> bool
     requires { (length links.now ≤ max_links) × (r < max_links) }
     ensures { result ≡ outside_has set links.now r }
 {
-    !(0..links.len()).all(|i| in_set(set, i) | (links[i].signal as usize != r + 1))
+    links.iter().enumerate().any(|(i, link)| !in_set(set, i) & (link.signal as usize == r + 1))
 }
 
 // Numbers both halves of a network by the set of links in the first. A signal with a link in the second half goes there.
-// Not inlined, and filled where it is lent: `split` takes 7,768 bytes of stack so, of its 8 KiB. It took 9,320 when the halves were returned, with tables of marks.
+// Not inlined, and filled where it is lent: `split` takes 7,672 bytes of stack so, of its 8 KiB. It took 9,320 when the halves were returned, with tables of marks.
 #[inline(never)]
 pub fn number_halves(set: u32, tables: &NetworkTables, halves: &mut Halves)
     requires { HalvesAsked tables.now }
-    ensures { HalvesNumbered set tables.now halves.new }
+    ensures above { halves.new.above ≡ set / 2 ^ tables.now.reading.counts.links }
+    ensures numbered { HalvesNumbered set tables.now halves.new }
 {
     let counts = tables.reading.counts;
     let links = &tables.links[..counts.links];

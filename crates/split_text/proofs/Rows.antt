@@ -1,9 +1,11 @@
 -- The `S` and the `P` line of a step, read, filled and put.
 use Rattle.base_laws.proofs.Kit.{ℕ, suc, ◌+◌, ◌<◌, ◌≡◌, refl, sym, ap, ◌∙◌, List, [], ◌∷◌, add-one, arith, length, get_or, set, take, replicate, length-replicate}
+use Rattle.text_reader.specs.Lines.{lines}
 use Rattle.text_reader.specs.Reading.{over}
 use Rattle.text_writer.specs.Records.{record_text}
 use Rattle.model.specs.Network.{on_timeline, timeline_line, step_line}
 use Rattle.model.specs.Table.{letter_p, letter_s}
+use Rattle.model.specs.Hold.{plan_of}
 use Rattle.model.proofs.Accepted.{valid-network}
 use Rattle.network_tables.specs.declared.Counts.{Counts}
 use Rattle.network_tables.specs.Fields.{step_size, line_size, demand_in, admitted_in, let_out_in, moved_in}
@@ -41,15 +43,15 @@ over-one : (base : List ℕ) (x : ℕ) → 0 < length base → set base 0 x ≡ 
 over-one base x h = ap (λ (z : List ℕ). set z 0 x) (over_none base) ∙ over-next [] base x 0 refl h
 
 -- ---- what is asked of the border, and of a row
-module _ {whole : Whole} (held : Held whole) where
+module _ (whole : Whole) where
   abbrev counts : Counts
   counts = whole.tables.reading.counts
 
-  pub border-asked : BorderAsked whole.tables.movements.now counts.movements
-  border-asked = movements-there (whole_network whole) held.holds whole.tables held.counted held.movement-table
+  pub border-asked : {network_text : List ℕ} → Held network_text whole → BorderAsked whole.tables.movements.now counts.movements
+  border-asked {network_text} held = movements-there (lines network_text) held.holds whole.tables held.counted held.movement-table
 
   -- ---- the `S` line
-  pub step-put : {half : HalfTables} (place : Place) {old new : Output} {zeros_step step line into : List ℕ} {blank row : Row} {next after : ℕ}
+  pub step-put : Held whole.tables.text.now whole → {half : HalfTables} (place : Place) {old new : Output} {zeros_step step line into : List ℕ} {blank row : Row} {next after : ℕ}
       → length zeros_step ≡ step_size → ReadAgain letter_s (1 + counts.links) whole.tables.text.now place.step_at zeros_step next step
       → PlanLineRead whole place.plan_at (replicate line_size 0) after line
       → Bordered whole.tables.movements.now half.links counts.movements 1 (moved_in counts line) into
@@ -57,7 +59,7 @@ module _ {whole : Whole} (held : Held whole) where
       → Filled (picked counts.links (is_in half.links) (raised (demand_in step) into)) blank row
       → {numbers : List ℕ} → numbers ≡ row.numbers.now → Put 1 (record_text letter_s (take row.at numbers)) old new
       → StepPut whole half place old new (record { boundary = place.boundary + 1; step_at = next; plan_at = after })
-  step-put {half} place {step = step} {into = into} {blank = blank} {row = row} step-size r read b blank-is blank-at f back p set h one within starts =
+  step-put held {half} place {step = step} {into = into} {blank = blank} {row = row} step-size r read b blank-is blank-at f back p set h one within starts =
       let net = whole_network whole in
       let n = place.boundary in
       let line-held = r.held (step_line net n) starts.step-starts (rw held.counted.links (step-form net held.holds n within)) in
@@ -84,9 +86,9 @@ module _ {whole : Whole} (held : Held whole) where
       → Filled (picked counts.movements (is_in half.movements) (moved_in counts line)) row₃ row
       → {numbers : List ℕ} → numbers ≡ row.numbers.now → Put 1 (record_text letter_p (take row.at numbers)) old new
       → LinePut whole half at old new next
-  line-put at {zeros = zeros} {row = row} read b d zeros-at-first f₁ f₂ f₃ f₄ back p set h one n within starts =
+  line-put at {zeros = zeros} {row = row} read b d zeros-at-first f₁ f₂ f₃ f₄ back p network_text held set h one n within starts =
       let (numbers, on) = numbers-read held within starts (zeros-at line_size) (length-replicate {A = ℕ} line_size 0) read in
       let all = fills-more f₁ (fills-more f₂ (fills-more f₃ f₄)) in
       let front = front-is _ zeros.numbers.now row.numbers.now row.at (all.is [] zeros.numbers.now (sym zeros-at-first) (over_none zeros.numbers.now)) (omega (arith, all.ends)) in
-      let same = front ∙ row-written held.holds one held.movement-table (whole_plan whole) n numbers held.counted b d in
+      let same = front ∙ row-written held.holds one held.movement-table (plan_of network_text whole.plan.now) n numbers held.counted b d in
       (rw (back, same) at p, on)

@@ -1,11 +1,13 @@
 -- The `S` lines and the `P` lines of all steps, put one behind another.
 use Rattle.base_laws.proofs.Kit.{ℕ, ◌+◌, ◌<◌, ◌≡◌, refl, ◌∙◌, List, add-one, arith}
+use Rattle.text_reader.specs.Lines.{lines}
 use Rattle.text_reader.specs.Reading.{over}
 use Rattle.text_reader.proofs.Laws.{starts_first}
 use Rattle.text_writer.specs.Records.{record_texts}
 use Rattle.text_writer.specs.Writing.{put_at}
 use Rattle.model.specs.Network.{step_count}
 use Rattle.model.specs.Table.{letter_s, letter_p}
+use Rattle.model.specs.Hold.{plan_of}
 use Rattle.network_writer.specs.declared.Output.{Output}
 use Rattle.network_writer.specs.Put.{Put, PutWhole}
 use Rattle.network_writer.proofs.Put.{lines_none, lines_more}
@@ -18,7 +20,7 @@ use Rattle.model_split.specs.Call.{in_set}
 use Rattle.split_tables.specs.declared.Whole.{Whole}
 use Rattle.split_tables.specs.declared.HalfTables.{HalfTables}
 use Rattle.split_tables.specs.Whole.{whole_network, whole_plan}
-use Rattle.split_text.specs.Halves.{OneHalf, StepAsked, StepPut, StepsAsked, StepsPut, PlanAsked, PlanLineAsked, LinePut, PlanPut}
+use Rattle.split_text.specs.Halves.{OneHalf, Held, StepAsked, StepPut, StepsAsked, StepsPut, PlanAsked, PlanLineAsked, LinePut, PlanPut}
 
 -- a text that is put at the beginning
 pub put-at-first : (old : Output) → old.at ≡ 0 → (text : List ℕ) → put_at old.at text old.out.now ≡ over text old.out.now
@@ -65,32 +67,33 @@ module _ {whole : Whole} {half : HalfTables} {old : Output} (a : StepsAsked whol
 -- ---- `put_plan`: n lines are put
 pub record PlanTo (whole : Whole) (half : HalfTables) (old : Output) (at : ℕ) (now : Output) (n : ℕ) : Type 0 where
   pub starts : PlanAt whole.plan.now at n
-  pub put : (set : ℕ) (h : Half) → OneHalf (whole_network whole) set h half
-      → Put n (record_texts letter_p n (plan_numbers (whole_network whole) (in_set set) (whole_plan whole) h)) old now
+  pub put : (network_text : List ℕ) → Held network_text whole → (set : ℕ) (h : Half) → OneHalf (lines network_text) set h half
+      → Put n (record_texts letter_p n (plan_numbers (lines network_text) (in_set set) (plan_of network_text whole.plan.now) h)) old now
 
-module _ {whole : Whole} {half : HalfTables} (a : PlanAsked whole half) {old : Output} where
+module _ {whole : Whole} {half : HalfTables} {old : Output} where
   pub plan-none : PlanTo whole half old 0 old 0
-  plan-none = record { starts = λ l. starts_first whole.plan.now; put = λ set h one. lines_none letter_p _ old }
+  plan-none = record { starts = λ l. starts_first whole.plan.now; put = λ network_text held set h one. lines_none letter_p _ old }
 
   module _ {now : Output} {at n : ℕ} (t : PlanTo whole half old at now n) where
     module _ (h : n < whole.tables.reading.counts.steps) where
-      more-lines : n < step_count (whole_network whole)
-      more-lines = omega (arith, a.held.counted.steps)
+      more-lines : {network_text : List ℕ} → Held network_text whole → n < step_count (lines network_text)
+      more-lines held = omega (arith, held.counted.steps)
 
-      pub plan-line-asked : old.at ≡ 0 → PlanLineAsked whole half at now
-      plan-line-asked first =
-          let p = t.put a.set a.h a.one in
-          record { asked = a; n = n; within = more-lines; starts = t.starts; early = omega (arith, p.ends, p.few, whole.tables.sized.few.steps) }
+      module _ (a : PlanAsked whole half) where
+        pub plan-line-asked : old.at ≡ 0 → PlanLineAsked whole half at now
+        plan-line-asked first =
+            let p = t.put a.network_text a.asked.held a.asked.set a.asked.h a.asked.one in
+            record { plan = a; n = n; within = more-lines a.asked.held; starts = t.starts; early = omega (arith, p.ends, p.few, whole.tables.sized.few.steps) }
 
-      pub plan-next : {new : Output} {next : ℕ} → LinePut whole half at now new next → PlanTo whole half old next new (n + 1)
-      plan-next s =
-          record {
-            starts = rw (add-one n) (s a.set a.h a.one n more-lines t.starts).1;
-            put = λ set g one. lines_more letter_p _ (t.put set g one) (s set g one n more-lines t.starts).0;
-          }
+        pub plan-next : {new : Output} {next : ℕ} → LinePut whole half at now new next → PlanTo whole half old next new (n + 1)
+        plan-next s =
+            record {
+              starts = rw (add-one n) (s a.network_text a.asked.held a.asked.set a.asked.h a.asked.one n (more-lines a.asked.held) t.starts).1;
+              put = λ network_text held set g one. lines_more letter_p _ (t.put network_text held set g one) (s network_text held set g one n (more-lines held) t.starts).0;
+            }
 
     pub plan-all : old.at ≡ 0 → n ≡ whole.tables.reading.counts.steps → PlanPut whole half old.out.now now.out.now now.at
     unfolding half_plan_text
-    plan-all first e set g one =
-        let p = rw (e, a.held.counted.steps) at (t.put set g one) in
+    plan-all first e network_text held set g one =
+        let p = rw (e, held.counted.steps) at (t.put network_text held set g one) in
         record { long = omega (arith, p.ends); is = λ l. p.is l ∙ put-at-first old first _ }

@@ -67,7 +67,7 @@ module _ {whole : Whole} {half : HalfTables} (a : NetworkAsked whole half) where
   abbrev few : Few counts
   few = whole.tables.sized.few
 
-  abbrev held : Held whole
+  abbrev held : Held whole.tables.text.now whole
   held = a.asked.held
 
   valid : ValidNetwork net

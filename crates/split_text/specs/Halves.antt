@@ -1,11 +1,12 @@
 -- What the writing of a half asks and promises.
 use Rattle.std.specs.Prelude.{ℕ, suc, ◌+◌, ◌*◌, ◌<◌, ◌≡◌, true, ◌⊎◌, List, Option, Some}
 use Rattle.base_search.specs.Checks.{Hold}
-use Rattle.text_reader.specs.Lines.{Line}
+use Rattle.text_reader.specs.Lines.{Line, lines}
 use Rattle.text_reader.specs.Reading.{Starts}
 use Rattle.text_writer.specs.Records.{record_text, record_texts}
 use Rattle.model.specs.Network.{link_count, signal_count, movement_count, step_count, tram_line, step_line}
 use Rattle.model.specs.Table.{is_form, letter_p, letter_s, network_checks}
+use Rattle.model.specs.Hold.{plan_of}
 use Rattle.network_tables.specs.Tables.{CountsHold, LinkTable, MovementTable, SignalTable}
 use Rattle.network_writer.specs.declared.Output.{Output}
 use Rattle.network_writer.specs.Put.{Put, PutWhole, Early}
@@ -27,13 +28,20 @@ pub record OneHalf (network : List Line) (set : ℕ) (h : Half) (half : HalfTabl
   pub numbered : HalfNumbered network h half
 
 -- a network and a plan whose lines have passed, with their tables
-pub record Held (whole : Whole) : Type 0 where
-  pub holds : Hold (network_checks (whole_network whole))
-  pub counted : CountsHold (whole_network whole) whole.tables.reading.counts
-  pub signal-table : SignalTable (whole_network whole) whole.signals.now
-  pub movement-table : MovementTable (whole_network whole) whole.tables.movements.now
-  pub forms : (n : ℕ) → n < step_count (whole_network whole)
-      → is_form (whole_plan whole) n letter_p (signal_count (whole_network whole) + (2 * link_count (whole_network whole) + movement_count (whole_network whole))) ≡ true
+pub record Held (network_text : List ℕ) (whole : Whole) : Type 0 where
+  pub holds : Hold (network_checks (lines network_text))
+  pub counted : CountsHold (lines network_text) whole.tables.reading.counts
+  pub signal-table : SignalTable (lines network_text) whole.signals.now
+  pub movement-table : MovementTable (lines network_text) whole.tables.movements.now
+  pub forms : (n : ℕ) → n < step_count (lines network_text)
+      → is_form (plan_of network_text whole.plan.now) n letter_p (signal_count (lines network_text) + (2 * link_count (lines network_text) + movement_count (lines network_text))) ≡ true
+
+-- such a network, and one of its halves
+pub record HalfAsked (network_text : List ℕ) (whole : Whole) (half : HalfTables) : Type 0 where
+  pub held : Held network_text whole
+  pub set : ℕ
+  pub h : Half
+  pub one : OneHalf (lines network_text) set h half
 
 -- the `P` line at a place was read, and the next starts at the place returned
 pub record PlanLineRead (whole : Whole) (at : ℕ) (before : List ℕ) (next : ℕ) (after : List ℕ) : Type 0 where
@@ -41,29 +49,28 @@ pub record PlanLineRead (whole : Whole) (at : ℕ) (before : List ℕ) (next : �
   pub got : LineGot whole.plan.now at whole.signals.now whole.tables.reading.counts before result after
   pub next-is : (place : ℕ) → result ≡ Some place → next ≡ place
 
--- ---- the `P` lines
+-- ---- the `P` lines: of every network that has these tables, since its text isn't read
 pub record PlanAsked (whole : Whole) (half : HalfTables) : Type 0 where
-  pub held : Held whole
-  pub set : ℕ
-  pub h : Half
-  pub one : OneHalf (whole_network whole) set h half
+  pub network_text : List ℕ
+  pub asked : HalfAsked network_text whole half
 
 pub record PlanLineAsked (whole : Whole) (half : HalfTables) (at : ℕ) (output : Output) : Type 0 where
-  pub asked : PlanAsked whole half
+  pub plan : PlanAsked whole half
   pub n : ℕ
-  pub within : n < step_count (whole_network whole)
+  pub within : n < step_count (lines plan.network_text)
   pub starts : PlanAt whole.plan.now at n
   pub early : Early 1 output
 
 abbrev pub LinePut : Whole → HalfTables → ℕ → Output → Output → ℕ → Type 0
 LinePut whole half at old new next =
-    (set : ℕ) (h : Half) → OneHalf (whole_network whole) set h half → (n : ℕ) → n < step_count (whole_network whole) → PlanAt whole.plan.now at n
-    → Put 1 (record_text letter_p (plan_numbers (whole_network whole) (in_set set) (whole_plan whole) h n)) old new
+    (network_text : List ℕ) → Held network_text whole → (set : ℕ) (h : Half) → OneHalf (lines network_text) set h half → (n : ℕ)
+    → n < step_count (lines network_text) → PlanAt whole.plan.now at n
+    → Put 1 (record_text letter_p (plan_numbers (lines network_text) (in_set set) (plan_of network_text whole.plan.now) h n)) old new
     × PlanAt whole.plan.now next (suc n)
 
 -- ---- the `S` lines
 pub record StepAsked (whole : Whole) (half : HalfTables) (place : Place) (output : Output) : Type 0 where
-  pub asked : PlanAsked whole half
+  pub asked : HalfAsked whole.tables.text.now whole half
   pub within : place.boundary < step_count (whole_network whole)
   pub at : PlaceAt whole.tables.text.now whole.plan.now place
   pub early : Early 1 output
@@ -78,7 +85,7 @@ StepPut whole half place old new next =
     × (next.boundary ≡ place.boundary + 1)
 
 pub record StepsAsked (whole : Whole) (half : HalfTables) (output : Output) : Type 0 where
-  pub asked : PlanAsked whole half
+  pub asked : HalfAsked whole.tables.text.now whole half
   pub starts : Starts whole.tables.text.now whole.tables.reading.steps_at (step_line (whole_network whole) 0)
   pub early : Early whole.tables.reading.counts.steps output
 
@@ -91,11 +98,11 @@ StepsPut whole half old new =
 -- ---- the whole texts
 abbrev pub PlanPut : Whole → HalfTables → List ℕ → List ℕ → ℕ → Type 0
 PlanPut whole half old new size =
-    (set : ℕ) (h : Half) → OneHalf (whole_network whole) set h half
-    → PutWhole (half_plan_text (whole_network whole) (in_set set) (whole_plan whole) h) old new size
+    (network_text : List ℕ) → Held network_text whole → (set : ℕ) (h : Half) → OneHalf (lines network_text) set h half
+    → PutWhole (half_plan_text (lines network_text) (in_set set) (plan_of network_text whole.plan.now) h) old new size
 
 pub record NetworkAsked (whole : Whole) (half : HalfTables) : Type 0 where
-  pub asked : PlanAsked whole half
+  pub asked : HalfAsked whole.tables.text.now whole half
   pub link-table : LinkTable (whole_network whole) whole.tables.links.now
   pub trams-start : Starts whole.tables.text.now whole.tables.reading.trams_at (tram_line (whole_network whole) 0)
   pub steps-start : Starts whole.tables.text.now whole.tables.reading.steps_at (step_line (whole_network whole) 0)

@@ -16,5 +16,5 @@ returns-in_err-checked-clause-written c =
 pub returns-clause-written : goal.returns-clause-written
 unfolding room_of
 returns-clause-written c =
-    all-written c.args.whole.now c.args.halves.now c.put_network.ensures c.put_plan.ensures c.put_network-2.ensures c.put_plan-2.ensures c.measure-lengths.ensures c.has_room.ensures
+    all-written c.args.whole.now c.requires.held c.args.halves.now c.put_network.ensures c.put_plan.ensures c.put_network-2.ensures c.put_plan-2.ensures c.measure-lengths.ensures c.has_room.ensures
     (sym c.checked.ensures ∙ c.in_ok-checked.was)

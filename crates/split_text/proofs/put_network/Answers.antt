@@ -13,7 +13,7 @@ use Rattle.split_text.proofs.put_network.Goals as goal
 use Rattle.split_text.proofs.put_network.Goals.{After-count_rows-found}
 
 pub add_border-rates-requires-clause-asked : goal.add_border-rates-requires-clause-asked
-add_border-rates-requires-clause-asked c = border-asked c.requires.asked.held
+add_border-rates-requires-clause-asked c = border-asked c.args.whole.now c.requires.asked.held
 
 pub load_trams-trams-requires : goal.load_trams-trams-requires
 load_trams-trams-requires c = load-ready c.requires.trams-start c.requires.asked.held.counted c.requires.asked.held.holds (search rules)

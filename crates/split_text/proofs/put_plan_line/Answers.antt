@@ -9,13 +9,13 @@ use Rattle.split_text.proofs.Rows.{border-asked, line-put}
 use Rattle.split_text.proofs.put_plan_line.Goals as goal
 
 pub read_plan-next-requires : goal.read_plan-next-requires
-read_plan-next-requires c = plan-asked c.requires.asked.held refl
+read_plan-next-requires c = plan-asked c.requires.plan.asked.held refl
 
 pub add_border-into-requires-clause-asked : goal.add_border-into-requires-clause-asked
-add_border-into-requires-clause-asked c = border-asked c.requires.asked.held
+add_border-into-requires-clause-asked c = border-asked c.args.whole.now c.requires.plan.asked.held
 
 pub add_border-from-requires-clause-asked : goal.add_border-from-requires-clause-asked
-add_border-from-requires-clause-asked c = border-asked c.requires.asked.held
+add_border-from-requires-clause-asked c = border-asked c.args.whole.now c.requires.plan.asked.held
 
 pub returns : goal.returns
 unfolding raised
@@ -26,7 +26,7 @@ returns c =
     let line = c.read_plan-next.new.line in
     let into = c.add_border-into.result in
     let from = c.add_border-from.result in
-    line-put c.requires.asked.held c.args.at c.read_plan-next.ensures
+    line-put c.args.whole.now c.args.at c.read_plan-next.ensures
     (c.add_border-into.ensures (moved_in counts line) (λ k number h p. search rules))
     (c.add_border-from.ensures (moved_in counts line) (λ k number h p. search rules)) refl
     (filled-front half.signals counts.signals _ (omega (arith, few.signals)) (c.put_kept.ensures.filled (λ r. get_or line r 0) (λ k number h p. search rules)))

@@ -12,7 +12,7 @@ pub read_plan-plan_at-requires : goal.read_plan-plan_at-requires
 read_plan-plan_at-requires c = plan-asked c.requires.asked.held refl
 
 pub add_border-into-requires-clause-asked : goal.add_border-into-requires-clause-asked
-add_border-into-requires-clause-asked c = border-asked c.requires.asked.held
+add_border-into-requires-clause-asked c = border-asked c.args.whole.now c.requires.asked.held
 
 pub returns : goal.returns
 unfolding raised
@@ -22,7 +22,7 @@ returns c =
     let step = c.read_again-step_at.new.row in
     let line = c.read_plan-plan_at.new.line in
     let into = c.add_border-into.result in
-    step-put c.requires.asked.held c.args.place refl (rw c.step_width-width.ensures at c.read_again-step_at.ensures) c.read_plan-plan_at.ensures
+    step-put c.args.whole.now c.requires.asked.held c.args.place refl (rw c.step_width-width.ensures at c.read_again-step_at.ensures) c.read_plan-plan_at.ensures
     (c.add_border-into.ensures (moved_in counts line) (λ k number h p. search rules)) refl refl
     (filled-front half.links counts.links _ (omega (arith, c.args.whole.now.tables.sized.few.links)) (c.put_kept.ensures.filled (raised (demand_in step) into) (λ k number h p. search rules)))
     (search rules) c.put_line.ensures
