@@ -76,16 +76,23 @@ fn write_halves(
     Ok(lengths)
 }
 
-// The checks on a network that has passed, with the tables of its halves: 40, 41, and the form of the plan's lines. Both tests are made before one of them is
-// refused: a wrong program reports 41 before 40 by exchanging the two, and an edit keeps the names of goals (docs/DECISIONS.md).
+// The checks on a network that has passed, with the tables of its halves: 40, 41, and the form of the plan's lines.
 fn judge_halves(whole: &Whole, halves: &Halves) -> Result<(), Refusal>
     requires { Passed whole.now }
     ensures { HalvesJudged whole.now halves.now result }
 {
-    let can = split_checks::can_split(whole, halves);
-    let parts = split_checks::parts_signals(&whole.tables, &halves.first);
-    checked(can, Reason::SplitNetwork, 0, 0)?;
-    checked(parts, Reason::SplitSignals, 0, 0)?;
+    checked(
+        split_checks::can_split(whole, halves),
+        Reason::SplitNetwork,
+        0,
+        0,
+    )?;
+    checked(
+        split_checks::parts_signals(&whole.tables, &halves.first),
+        Reason::SplitSignals,
+        0,
+        0,
+    )?;
     split_checks::plan_form(whole.plan, whole.signals, whole.tables.reading.counts)
 }
 
