@@ -5,7 +5,7 @@ ghost use Rattle.cases_split.specs.Compare.{as_stored, answer_to, left_by};
 
 use crate::told;
 use crate::told::{Buffers, Stored, Texts};
-use base_search::Refusal;
+use base_search::{Reason, Refusal};
 use cases_files::agreement::agrees;
 use cases_files::reading::{Malformed, read_array, read_text, read_u32};
 use cases_files::refusals::{Columns, read_refusal};
@@ -30,12 +30,12 @@ struct Case<'a> {
 
 // The place of the cases that were refused like this, or written. Not by `tally::place_of`: the network's own refusals have one place together.
 fn place_of(refusal: Option<Refusal>) -> usize {
-    match refusal {
+    match refusal.map(|refusal| refusal.number) {
         None => 0,
-        Some(Refusal { number: 9, .. }) => 2,
-        Some(Refusal { number: 40, .. }) => 3,
-        Some(Refusal { number: 41, .. }) => 4,
-        Some(Refusal { number: 42, .. }) => 5,
+        Some(number) if number == Reason::PlanForm.number() => 2,
+        Some(number) if number == Reason::SplitNetwork.number() => 3,
+        Some(number) if number == Reason::SplitSignals.number() => 4,
+        Some(number) if number == Reason::SplitRoom.number() => 5,
         Some(_) => 1,
     }
 }
