@@ -1,5 +1,5 @@
 -- The turns of the loop over the steps of a network that has passed.
-use Rattle.base_laws.proofs.Kit.{◌≡◌, refl, ap, ◌∙◌, Bool, true, false, not, List, ℕ, suc, ◌+◌, ◌-◌, ◌≤◌, ◌<◌, arith, eqb, length, get_or}
+use Rattle.base_laws.proofs.Kit.{◌≡◌, refl, ap, ◌∙◌, Bool, true, false, not, List, ◌++◌, ℕ, suc, ◌+◌, ◌-◌, ◌≤◌, ◌<◌, arith, eqb, length, take, drop}
 use Rattle.text_reader.specs.Reading.{Starts}
 use Rattle.base_laws.specs.Test.{◌or◌, every}
 use Rattle.model.specs.Network.{movement_count, step_count, on_timeline, timeline_line, step_line}
@@ -9,6 +9,7 @@ use Rattle.network_tables.specs.Fields.{step_size, link_in, demand_in}
 use Rattle.network_tables.specs.Rows.{LineHeld, ReadAgain}
 use Rattle.network_tables.specs.Tables.{StepNumbers}
 use Rattle.network_tables.proofs.Tables.{demand-at}
+use Rattle.network_tables.proofs.Rows.{again_joined}
 use Rattle.plan_steps.proofs.Steps.{step-form}
 use Rattle.split_tables.specs.declared.Whole.{Whole}
 use Rattle.split_tables.specs.declared.HalfTables.{HalfTables}
@@ -37,35 +38,46 @@ module _ {whole : Whole} (a : StepsAsked whole) (half : HalfTables) where
   free-asked = movements-there (whole_network whole) a.holds whole.tables a.counted a.movement-table
 
   module _ {step : List ℕ} {line n : ℕ} (inv : StepsTo whole half step line n) where
-    module _ (l : n < whole.tables.reading.counts.steps) {next : ℕ} {step' : List ℕ}
-        (got : ReadAgain letter_s (1 + whole.tables.reading.counts.links) whole.tables.text.now line step next step') {v : Bool}
-        (told : v ≡ every whole.tables.reading.counts.movements (demand_free_in (demand_in step') whole.tables.movements.now half.links)) where
-      more : n < step_count (whole_network whole)
-      more = omega (arith, a.counted.steps)
+    module _ {width : ℕ} (wide : width ≡ 1 + whole.tables.reading.counts.links) {next : ℕ} {part : List ℕ}
+        (got : ReadAgain letter_s (length (take width step)) whole.tables.text.now line (take width step) next part) where
+      -- the step, whose first numbers were read
+      abbrev step' : List ℕ
+      step' = part ++ drop width step
 
-      read : LineHeld letter_s (1 + whole.tables.reading.counts.links) whole.tables.text.now (step_line (whole_network whole) n) next 0 step'
-      read = got.held (step_line (whole_network whole) n) inv.starts (rw a.counted.links (step-form (whole_network whole) a.holds n more))
+      again : ReadAgain letter_s (1 + whole.tables.reading.counts.links) whole.tables.text.now line step next step'
+      again = rw (← wide) (again_joined (omega (arith, wide, inv.room, a.counted.few.links)) got)
 
-      numbers : StepNumbers (whole_network whole) n step'
-      numbers = record { size = got.size ∙ inv.room; holds = λ k u. let z : k ≡ 0 + k = omega arith in ap (λ x. get_or step' x 0) z ∙ read.numbers k (omega (arith, a.counted.links)) }
+      pub room-kept : length step' ≡ step_size
+      room-kept = again.size ∙ inv.room
 
-      free-told : v ≡ test n
-      unfolding demand_free_in
-      free-told =
-          told
-          ∙ ap (λ m. every m (demand_free_in (demand_in step') whole.tables.movements.now half.links)) a.counted.movements
-          ∙ every-same (movement_count (whole_network whole)) _ _
-          (λ j u. ap (λ x. not (crosses_in whole.tables.movements.now half.links j) or eqb x 0)
-          (demand-at numbers (link_in whole.tables.movements.now 1 j - 1) (let e = movement-ends (whole_network whole) a.holds a.movement-table j 1 u (omega arith) in omega (arith, e.0, e.1))))
+      module _ (l : n < whole.tables.reading.counts.steps) {v : Bool}
+          (told : v ≡ every whole.tables.reading.counts.movements (demand_free_in (demand_in step') whole.tables.movements.now half.links)) where
+        more : n < step_count (whole_network whole)
+        more = omega (arith, a.counted.steps)
 
-      pub steps-fail : not v ≡ true → false ≡ every (step_count (whole_network whole)) test
-      steps-fail f = test-fails test free-told more f
+        read : LineHeld letter_s (1 + whole.tables.reading.counts.links) whole.tables.text.now (step_line (whole_network whole) n) next step'
+        read = again.held (step_line (whole_network whole) n) inv.starts (rw a.counted.links (step-form (whole_network whole) a.holds n more))
 
-      pub steps_next : not v ≡ false → StepsTo whole half step' next (n + 1)
-      steps_next f =
-          record {
-            within = omega arith;
-            room = got.size ∙ inv.room;
-            starts = let e : step_line (whole_network whole) (n + 1) ≡ suc (step_line (whole_network whole) n) = unfold step_line timeline_line on_timeline in omega arith in rw e read.starts;
-            free = test-holds test free-told inv.free f;
-          }
+        numbers : StepNumbers (whole_network whole) n step'
+        numbers = record { size = room-kept; holds = λ k u. read.numbers k (omega (arith, a.counted.links)) }
+
+        free-told : v ≡ test n
+        unfolding demand_free_in
+        free-told =
+            told
+            ∙ ap (λ m. every m (demand_free_in (demand_in step') whole.tables.movements.now half.links)) a.counted.movements
+            ∙ every-same (movement_count (whole_network whole)) _ _
+            (λ j u. ap (λ x. not (crosses_in whole.tables.movements.now half.links j) or eqb x 0)
+            (demand-at numbers (link_in whole.tables.movements.now 1 j - 1) (let e = movement-ends (whole_network whole) a.holds a.movement-table j 1 u (omega arith) in omega (arith, e.0, e.1))))
+
+        pub steps-fail : not v ≡ true → false ≡ every (step_count (whole_network whole)) test
+        steps-fail f = test-fails test free-told more f
+
+        pub steps_next : not v ≡ false → StepsTo whole half step' next (n + 1)
+        steps_next f =
+            record {
+              within = omega arith;
+              room = room-kept;
+              starts = let e : step_line (whole_network whole) (n + 1) ≡ suc (step_line (whole_network whole) n) = unfold step_line timeline_line on_timeline in omega arith in rw e read.starts;
+              free = test-holds test free-told inv.free f;
+            }

@@ -64,7 +64,7 @@ module _ (whole : Whole) where
       let n = place.boundary in
       let line-held = r.held (step_line net n) starts.step-starts (rw held.counted.links (step-form net held.holds n within)) in
       let (numbers, on) = numbers-read held within starts.plan-starts (zeros-at line_size) (length-replicate {A = ℕ} line_size 0) read in
-      let steps : StepNumbers net n step = record { size = r.size ∙ step-size; holds = λ k l. let z : k ≡ 0 + k = omega arith in ap (λ x. get_or step x 0) z ∙ line-held.numbers k (omega (arith, held.counted.links)) } in
+      let steps : StepNumbers net n step = record { size = r.size ∙ step-size; holds = λ k l. line-held.numbers k (omega (arith, held.counted.links)) } in
       let small = texts-small whole.tables.text.now whole.plan.now (valid-network net held.holds) in
       let over_zeros = blank-is ∙ over-one (replicate step_size 0) (get_or step 0 0) (omega (arith, length-replicate {A = ℕ} step_size 0)) in
       let front = front-is (get_or step 0 0 ∷ picked counts.links (is_in half.links) (raised (demand_in step) into)) (replicate step_size 0) row.numbers.now row.at
