@@ -1,20 +1,20 @@
 -- Lines that have passed, read again and put as they are.
-use Rattle.base_laws.proofs.Kit.{ℕ, suc, ◌+◌, ◌*◌, ◌≤◌, ◌<◌, ◌≡◌, refl, ap, ◌∙◌, true, List, ◌∷◌, arith, length, get_or, take}
+use Rattle.base_laws.proofs.Kit.{ℕ, suc, ◌+◌, ◌*◌, ◌≤◌, ◌<◌, ◌≡◌, refl, ap, ◌∙◌, true, List, ◌∷◌, ◌++◌, arith, length, get_or, take, drop}
 use Rattle.text_reader.specs.Lines.{lines}
 use Rattle.text_reader.specs.Reading.{Starts, over}
 use Rattle.text_writer.specs.Records.{record_text, record_texts}
 use Rattle.base_laws.specs.Sum.{joined}
 use Rattle.base_laws.specs.Indexed.{list}
-use Rattle.model.specs.Network.{entry}
+use Rattle.model.specs.Network.{max_links, entry}
 use Rattle.model.specs.Table.{is_form, letter_h, letter_s}
 use Rattle.network_tables.specs.Fields.{past_size}
 use Rattle.network_tables.specs.declared.NetworkTables.{NetworkTables}
 use Rattle.network_writer.specs.declared.Output.{Output}
 use Rattle.network_writer.specs.Put.{longest, Put}
 use Rattle.network_tables.specs.Rows.{ReadAgain}
+use Rattle.network_tables.proofs.Rows.{again_joined, line-fields}
 use Rattle.network_writer.proofs.Put.{lines_none, lines_more}
 use Rattle.network_writer.proofs.Filling.{front-is}
-use Rattle.network_writer.proofs.Reading.{numbers-are}
 use Rattle.carry.specs.declared.PassedLines.{PassedLines}
 use Rattle.carry.specs.declared.Standing.{Standing}
 use Rattle.carry.specs.Rows.{volumes_in}
@@ -27,14 +27,14 @@ Forms text first letter width count = (k : ℕ) → k < count → is_form (lines
 -- line `first + k` starts at `line`
 pub record CopiedTo (text : List ℕ) (passed : PassedLines) (old : Output) (row : List ℕ) (line : ℕ) (now : Output) (k : ℕ) : Type 0 where
   pub few : k ≤ passed.count
-  pub sized-row : length row ≡ past_size
+  pub sized-row : length row ≡ passed.width
   pub buffer : now.out.ghost_name ≡ old.out.ghost_name
   pub small : now.at ≤ old.at + longest * k
   pub when : (first : ℕ) → Starts text passed.at first → Forms text first passed.letter passed.width passed.count
       → Starts text line (first + k) × Put k (record_texts passed.letter k (λ j. list passed.width (entry (lines text) (first + j)))) old now
 
 module _ {text : List ℕ} {passed : PassedLines} {old : Output} where
-  pub copied_none : {row : List ℕ} → length row ≡ past_size → CopiedTo text passed old row passed.at old 0
+  pub copied_none : {row : List ℕ} → length row ≡ passed.width → CopiedTo text passed old row passed.at old 0
   copied_none l =
       record {
         few = omega arith;
@@ -45,11 +45,11 @@ module _ {text : List ℕ} {passed : PassedLines} {old : Output} where
       }
 
   module _ {row : List ℕ} {line k : ℕ} {now : Output} (inv : CopiedTo text passed old row line now k) where
-    module _ (fits : passed.width ≤ past_size) (h : k < passed.count) {next : ℕ} {row' : List ℕ} (r : ReadAgain passed.letter passed.width text line row next row') where
-      copied-size : length row' ≡ past_size
+    module _ (h : k < passed.count) {next : ℕ} {row' : List ℕ} (r : ReadAgain passed.letter (length row) text line row next row') where
+      copied-size : length row' ≡ passed.width
       copied-size = r.size ∙ inv.sized-row
 
-      pub copied_next : {new : Output} → Put 1 (record_text passed.letter (take passed.width row')) now new → CopiedTo text passed old row' next new (k + 1)
+      pub copied_next : {new : Output} → Put 1 (record_text passed.letter row') now new → CopiedTo text passed old row' next new (k + 1)
       copied_next {new} p =
           record {
             few = omega arith;
@@ -63,8 +63,8 @@ module _ {text : List ℕ} {passed : PassedLines} {old : Output} where
               → is_form (lines text) (first + k) passed.letter passed.width ≡ true
               → Starts text next (first + (k + 1)) × Put (k + 1) (record_texts passed.letter (k + 1) (λ j. list passed.width (entry (lines text) (first + j)))) old new
           go first (s, q) form =
-              let held = r.held (first + k) s form in
-              let same : take passed.width row' ≡ list passed.width (entry (lines text) (first + k)) = numbers-are passed.width (entry (lines text) (first + k)) row' (omega (arith, copied-size)) (λ j l. let z : j ≡ 0 + j = omega arith in ap (λ x. get_or row' x 0) z ∙ held.numbers j l) in
+              let held = r.held (first + k) s (rw inv.sized-row form) in
+              let same : row' ≡ list passed.width (entry (lines text) (first + k)) = line-fields (rw inv.sized-row at held) copied-size in
               let e : first + (k + 1) ≡ suc (first + k) = omega arith in
               (rw e held.starts, lines_more passed.letter (λ j. list passed.width (entry (lines text) (first + j))) q (rw same at p))
 
@@ -92,8 +92,15 @@ module _ {tables : NetworkTables} {at : Standing} {old : Output} where
         when = λ first s f. let e : first + 0 ≡ first = omega arith in (lines_none letter_h (step tables at first) old, rw e s);
       }
 
-  module _ {row : List ℕ} {line n : ℕ} {now : Output} (inv : StepsTo tables at old row line now n) (h : n < at.boundary) {next : ℕ} {row' : List ℕ}
-      (r : ReadAgain letter_s (1 + tables.reading.counts.links) tables.text.now line row next row') where
+  module _ {row : List ℕ} {line n : ℕ} {now : Output} (inv : StepsTo tables at old row line now n) (h : n < at.boundary) (few-links : tables.reading.counts.links ≤ max_links)
+      {width : ℕ} (wide : width ≡ 1 + tables.reading.counts.links) {next : ℕ} {part : List ℕ} (read : ReadAgain letter_s (length (take width row)) tables.text.now line (take width row) next part) where
+    -- the row, whose first numbers were read
+    abbrev row' : List ℕ
+    row' = part ++ drop width row
+
+    r : ReadAgain letter_s (1 + tables.reading.counts.links) tables.text.now line row next row'
+    r = rw (← wide) (again_joined (omega (arith, inv.sized-row, few-links)) read)
+
     module _ {row'' : List ℕ} (filled : row'' ≡ over (get_or row' 0 0 ∷ joined tables.reading.counts.links (volumes_in at.ledger.now tables.reading.counts.links n)) row') where
       same : take (1 + 2 * tables.reading.counts.links) row'' ≡ get_or row' 0 0 ∷ joined tables.reading.counts.links (volumes_in at.ledger.now tables.reading.counts.links n)
       same = front-is (get_or row' 0 0 ∷ joined tables.reading.counts.links (volumes_in at.ledger.now tables.reading.counts.links n)) row' row'' (1 + 2 * tables.reading.counts.links) filled (omega (arith, volumes-length at.ledger.now tables.reading.counts.links n tables.reading.counts.links))

@@ -56,11 +56,12 @@ impl PassedLines {
         requires { (self.width ≤ past_size) × Early self.count output.old }
         ensures { Copied text.now self output.old output.new }
     {
-        let mut row = [0u32; PAST_SIZE];
+        let mut numbers = [0u32; PAST_SIZE];
+        let row = &mut numbers[..self.width];
         let mut line = self.at;
         for _ in 0..self.count {
-            line = read_again(text, line, self.letter, &mut row[..self.width]);
-            output.put_line(self.letter, &row[..self.width]);
+            line = read_again(text, line, self.letter, row);
+            output.put_line(self.letter, row);
         }
     }
 }

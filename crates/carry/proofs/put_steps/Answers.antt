@@ -7,5 +7,5 @@ loop-n-init c = steps-none refl
 
 pub loop-n-preserved : goal.loop-n-preserved
 loop-n-preserved c =
-    steps_next c.loop-n.invariant c.loop-n-test.true (rw c.step_width.ensures at c.read_again-line.ensures) c.fill_volumes.ensures c.fill_volumes.auto.row
+    steps_next c.loop-n.invariant c.loop-n-test.true c.requires.rising.few-links c.step_width.ensures c.read_again-line.ensures c.fill_volumes.ensures c.fill_volumes.auto.row
     (rw c.past_width.ensures at c.put_line.ensures)
