@@ -52,19 +52,19 @@ module _ (whole : Whole) where
 
   -- ---- the `S` line
   pub step-put : Held whole.tables.text.now whole → {half : HalfTables} (place : Place) {old new : Output} {zeros_step step line into : List ℕ} {blank row : Row} {next after : ℕ}
-      → length zeros_step ≡ step_size → ReadAgain letter_s (1 + counts.links) whole.tables.text.now place.step_at zeros_step next step
+      → length zeros_step ≡ step_size → {width : ℕ} → width ≡ 1 + counts.links → ReadAgain letter_s width whole.tables.text.now place.step_at zeros_step next step
       → PlanLineRead whole place.plan_at (replicate line_size 0) after line
       → Bordered whole.tables.movements.now half.links counts.movements 1 (moved_in counts line) into
       → blank.numbers.now ≡ set (replicate step_size 0) 0 (get_or step 0 0) → blank.at ≡ 1
       → Filled (picked counts.links (is_in half.links) (raised (demand_in step) into)) blank row
       → {numbers : List ℕ} → numbers ≡ row.numbers.now → Put 1 (record_text letter_s (take row.at numbers)) old new
       → StepPut whole half place old new (record { boundary = place.boundary + 1; step_at = next; plan_at = after })
-  step-put held {half} place {step = step} {into = into} {blank = blank} {row = row} step-size r read b blank-is blank-at f back p set h one within starts =
+  step-put held {half} place {step = step} {into = into} {blank = blank} {row = row} step-size wide r read b blank-is blank-at f back p set h one within starts =
       let net = whole_network whole in
       let n = place.boundary in
-      let line-held = r.held (step_line net n) starts.step-starts (rw held.counted.links (step-form net held.holds n within)) in
+      let line-held = r.held (step_line net n) starts.step-starts (rw (wide, held.counted.links) (step-form net held.holds n within)) in
       let (numbers, on) = numbers-read held within starts.plan-starts (zeros-at line_size) (length-replicate {A = ℕ} line_size 0) read in
-      let steps : StepNumbers net n step = record { size = r.size ∙ step-size; holds = λ k l. line-held.numbers k (omega (arith, held.counted.links)) } in
+      let steps : StepNumbers net n step = record { size = r.size ∙ step-size; holds = λ k l. line-held.numbers k (omega (arith, wide, held.counted.links)) } in
       let small = texts-small whole.tables.text.now whole.plan.now (valid-network net held.holds) in
       let over_zeros = blank-is ∙ over-one (replicate step_size 0) (get_or step 0 0) (omega (arith, length-replicate {A = ℕ} step_size 0)) in
       let front = front-is (get_or step 0 0 ∷ picked counts.links (is_in half.links) (raised (demand_in step) into)) (replicate step_size 0) row.numbers.now row.at

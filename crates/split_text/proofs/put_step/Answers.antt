@@ -20,13 +20,12 @@ unfolding raised
 returns c =
     let counts = c.args.whole.now.tables.reading.counts in
     let half = c.args.half.now in
-    let blank = replicate step_size 0 in
     let width = c.step_width-width.ensures in
     let few = c.args.whole.now.tables.sized.few.links in
-    let step = c.read_again-step_at.new.row ++ drop c.step_width-width.result blank in
+    let step = c.read_again-step_at.new.row ++ drop c.step_width-width.result (replicate step_size 0) in
     let line = c.read_plan-plan_at.new.line in
     let into = c.add_border-into.result in
-    step-put c.args.whole.now c.requires.asked.held c.args.place {step = step} refl (rw (← width) (again_joined (omega (arith, width, few, length-replicate {A = ℕ} step_size 0)) c.read_again-step_at.ensures)) c.read_plan-plan_at.ensures
+    step-put c.args.whole.now c.requires.asked.held c.args.place refl width (again_joined (omega (arith, width, few, length-replicate {A = ℕ} step_size 0)) c.read_again-step_at.ensures) c.read_plan-plan_at.ensures
     (c.add_border-into.ensures (moved_in counts line) (λ k number h p. search rules)) refl refl
     (filled-front half.links counts.links _ (omega (arith, few)) (c.put_kept.ensures.filled (raised (demand_in step) into) (λ k number h p. search rules)))
     (search rules) c.put_line.ensures
