@@ -1,5 +1,5 @@
 -- The returns of the function that reads the `N` line, each in the form of a need.
-use Rattle.base_laws.proofs.Kit.{ℕ, ◌+◌, ◌<◌, ◌≡◌, sym, ap, ◌∙◌, Bool, true, false, not, List, arith, leb-true, not-true, not-false, get_or}
+use Rattle.base_laws.proofs.Kit.{ℕ, ◌<◌, ◌≡◌, sym, ap, ◌∙◌, Bool, true, false, not, List, arith, leb-true, not-true, not-false, get_or}
 use Rattle.base_search.specs.declared.Refusal.{Refusal}
 use Rattle.base_search.specs.Checks.{refusal}
 use Rattle.text_reader.specs.Lines.{lines}
