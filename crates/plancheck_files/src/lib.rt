@@ -9,10 +9,15 @@ ghost use Rattle.plancheck_files.specs.Output.{output};
 use plancheck_report::{InputFile, OUTPUT_SIZE};
 use std::rt::Files;
 
+// The most bytes of a network's file and of a plan's.
+const MAX_NETWORK_SIZE: usize = 16_384;
+
+const MAX_PLAN_SIZE: usize = 24_576;
+
 // Writes what is to be printed of two texts, of which each was read or not.
 fn write_output(network: Option<&[u8]>, plan: Option<&[u8]>, out: &mut [u8]) -> usize
-    requires network_length { IfSome network (λ text. length text.now ≤ 16_384) }
-    requires plan_length { IfSome plan (λ text. length text.now ≤ 24_576) }
+    requires network_length { IfSome network (λ text. length text.now ≤ MAX_NETWORK_SIZE) }
+    requires plan_length { IfSome plan (λ text. length text.now ≤ MAX_PLAN_SIZE) }
     requires in_bounds { OUTPUT_SIZE ≤ length out.old }
     ensures { Wrote (output (option_copied network.entry) (option_copied plan.entry)) 0 out.old out.new result }
 {
@@ -23,12 +28,11 @@ fn write_output(network: Option<&[u8]>, plan: Option<&[u8]>, out: &mut [u8]) -> 
     }
 }
 
-// Checks the plan of one file on the network of another, and prints the report, or which of the two was not read. The network has at most 16,384
-// bytes and the plan 24,576; a buffer has room for one byte more, by which a file that is too long is known. Nothing is done about an output that takes
-// no more.
+// Checks the plan of one file on the network of another, and prints the report, or which of the two was not read. A buffer has room for one byte more than
+// the longest file, by which one that is too long is known. Nothing is done about an output that takes no more.
 pub fn run(rt: &(impl Files + Print), network_path: &str, plan_path: &str) {
-    let mut network = [0; 16_385];
-    let mut plan = [0; 24_577];
+    let mut network = [0; MAX_NETWORK_SIZE + 1];
+    let mut plan = [0; MAX_PLAN_SIZE + 1];
     let mut out = [0; OUTPUT_SIZE];
     let network_text = plancheck_io::read_file(rt, network_path, &mut network).map(
         |n| &network[..n],
