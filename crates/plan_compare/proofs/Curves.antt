@@ -1,5 +1,5 @@
 -- The curves of two plan texts, read again: one law for each way through a turn, and that they are the curves of the plans that the texts mean.
-use Rattle.base_laws.proofs.Kit.{ℕ, suc, ◌+◌, ◌*◌, ◌≤◌, ◌<◌, ◌≡◌, refl, sym, ap, ap₂, ◌∙◌, true, ◌&&◌, List, ◌++◌, dec_lt, mul-le-mul_left, add-one, arith, leb, length, take, drop, replicate, length-replicate, get_or, lt-ltb, le-ltb}
+use Rattle.base_laws.proofs.Kit.{ℕ, suc, ◌+◌, ◌*◌, ◌≤◌, ◌<◌, ◌≡◌, refl, sym, ap, ap₂, ◌∙◌, true, ◌&&◌, List, ◌++◌, dec_lt, mul-le-mul_left, add-one, arith, leb, length, take, drop, replicate, length-replicate, lt-ltb, le-ltb}
 use Rattle.base_search.specs.Checks.{Hold}
 use Rattle.text_reader.specs.Lines.{Line, lines}
 use Rattle.text_reader.proofs.Laws.{starts_first}
@@ -13,7 +13,7 @@ use Rattle.base_laws.proofs.Tests.{every-same}
 use Rattle.base_laws.proofs.Sums.{sum-ext, sum-zero}
 use Rattle.model.proofs.Hold.{plan-of-text, plan-of-empty, hold-volume}
 use Rattle.network_tables.specs.declared.Counts.{Counts}
-use Rattle.network_tables.specs.Places.{let_out_place, plan_width, Few}
+use Rattle.network_tables.specs.Places.{plan_width, Few}
 use Rattle.network_tables.specs.Fields.{line_size, let_out_in}
 use Rattle.network_tables.specs.Rows.{ReadAgain}
 use Rattle.network_tables.specs.Tables.{CountsHold}
@@ -23,6 +23,10 @@ use Rattle.plan_compare.specs.Comparison.{order_by, let_out_by, is_never_fewer, 
 use Rattle.plan_compare.specs.Curves.{line_lets_out, lines_no_fewer, lines_order, Formed, NextAsked, NextGot, ReadTo}
 
 -- ---- a step later
+-- a row without numbers
+abbrev row : List ℕ
+row = replicate line_size 0
+
 module _ {counts : Counts} {text : List ℕ} {so_far : LetOut} (asked : NextAsked counts text so_far) where
   -- an empty text
   pub next-empty : length text ≡ 0 → NextGot counts text so_far so_far
@@ -37,13 +41,13 @@ module _ {counts : Counts} {text : List ℕ} {so_far : LetOut} (asked : NextAske
         same = refl;
       }
 
-  -- a line is read into the first numbers of a row without any
+  -- a line is read into the first numbers of a row
   module _ {width : ℕ} {part : List ℕ} {at : ℕ} (is-width : width ≡ plan_width counts)
-      (read : ReadAgain letter_p (length (take width (replicate line_size 0))) text so_far.at (take width (replicate line_size 0)) at part) where
+      (read : ReadAgain letter_p (length (take width row)) text so_far.at (take width row) at part) where
     abbrev line : List ℕ
-    line = part ++ drop width (replicate line_size 0)
+    line = part ++ drop width row
 
-    again : ReadAgain letter_p width text so_far.at (replicate line_size 0) at line
+    again : ReadAgain letter_p width text so_far.at row at line
     again = let few = asked.formed.few in again_joined (omega (arith, is-width, length-replicate {A = ℕ} line_size 0, few.signals, few.links, few.movements)) read
 
     pub line-asked : Few counts × (length line ≡ line_size)
