@@ -1,5 +1,5 @@
 -- All steps of an accepted plan, and the whole call.
-use Rattle.base_laws.proofs.Kit.{ℕ, zero, suc, ◌≤◌, ◌<◌, ◌≡◌, refl, sym, ap, ap₂, ◌∙◌, cond, List, arith, length, take, length-take-le, get_or-take, replicate, length-replicate, get_or-replicate}
+use Rattle.base_laws.proofs.Kit.{ℕ, zero, suc, ◌≤◌, ◌<◌, ◌≡◌, refl, sym, ap, ap₂, ◌∙◌, Bool, false, cond, List, arith, length, take, length-take-le, get_or-take, replicate, length-replicate, get_or-replicate}
 use Rattle.base_search.specs.declared.Refusal.{Refusal}
 use Rattle.base_search.specs.Checks.{Checks, ◌then◌, or_else, verdict, Hold, Verdict}
 use Rattle.base_search.proofs.Laws.{or-else-passes, or-else-refused, hold-of-passes, passes-of-hold}
@@ -52,6 +52,13 @@ least-same f g (suc n) h =
     let ih = least-same f g n (λ r l. h r (omega arith)) in
     let e = h n (omega arith) in
     (ap₂ (λ x y. cond (earlier x y) x y) e ih.0, ap₂ (λ b y. cond b (suc n) y) (ap₂ earlier e ih.0) ih.1)
+
+-- a watch of which each part is its default is the first
+pub watch-first : (w : Watch) → (w.tested ≡ false) × ((w.line ≡ 0) × (w.broken ≡ 0)) → w ≡ no_watch
+watch-first w h = go w.tested w.line w.broken h.0 h.1.0 h.1.1
+  where
+    go : (t : Bool) (l b : ℕ) → t ≡ false → l ≡ 0 → b ≡ 0 → ◌≡◌ {A = Watch} (record { tested = t; line = l; broken = b }) no_watch
+    go t l b tested line broken = rw (tested, line, broken) refl
 
 module _ {plan_text : List ℕ} {tables : NetworkTables} {table : List (List ℕ)} {signals₀ : List Signal} (asked : PassAsked plan_text tables table signals₀) where
   abbrev network_text : List ℕ
