@@ -1,5 +1,5 @@
 -- Where the tables hold a network's and a sheet's numbers, what is judged and written by them is what the request says.
-use Rattle.base_laws.proofs.Kit.{ℕ, zero, suc, ◌+◌, ◌*◌, ◌-◌, ◌%◌, ◌^◌, ◌≤◌, ◌<◌, ◌≡◌, refl, sym, ap, ap₂, ◌∙◌, true, cond, not, List, [], add-one, dec_lt, arith, lt-ltb, le-ltb, leb, ltb, eqb, length, take, drop, length-take-le, get_or-take, length-drop, replicate, length-replicate, get_or, get_or-drop, List·getD-eq-default}
+use Rattle.base_laws.proofs.Kit.{ℕ, zero, suc, ◌+◌, ◌*◌, ◌-◌, ◌%◌, ◌^◌, ◌≤◌, ◌<◌, ◌≡◌, refl, sym, ap, ap₂, ◌∙◌, cond, not, List, [], add-one, dec_lt, arith, lt-ltb, le-ltb, leb, ltb, eqb, length, take, drop, length-take-le, get_or-take, length-drop, replicate, length-replicate, get_or, get_or-drop, List·getD-eq-default}
 use Rattle.base_search.specs.declared.Refusal.{Refusal}
 use Rattle.base_search.specs.Checks.{check, each, or_else, checked, verdict, Hold, Verdict}
 use Rattle.base_search.proofs.Laws.{first-same, or-else-passes, or-else-refused, hold-of-passes}
@@ -12,8 +12,8 @@ use Rattle.base_laws.specs.Test.{◌and◌}
 use Rattle.base_laws.specs.Sum.{sum, only}
 use Rattle.base_laws.specs.Indexed.{list}
 use Rattle.model.specs.declared.Signal.{Signal}
-use Rattle.model.specs.Network.{max_signals, max_trams, entry, link_count, signal_count, movement_count, step_count, tram_count, tram_line, past_count, on_timeline, signal, step_length, time, timeline_time}
-use Rattle.model.specs.Table.{is_form, letter_p, letter_t, tram_checks, network_checks}
+use Rattle.model.specs.Network.{max_signals, max_trams, entry, link_count, signal_count, movement_count, step_count, tram_count, past_count, on_timeline, signal, step_length, time, timeline_time}
+use Rattle.model.specs.Table.{letter_p, network_checks}
 use Rattle.base_laws.proofs.Tests.{every-same}
 use Rattle.base_laws.proofs.Sums.{sum-ext, list_same}
 use Rattle.model.proofs.Times.{time-suc, timeline-time-at, on-timeline-mono}
@@ -23,7 +23,7 @@ use Rattle.network_tables.specs.declared.Counts.{Counts}
 use Rattle.network_tables.specs.declared.NetworkTables.{NetworkTables}
 use Rattle.network_tables.specs.Places.{plan_width, Few}
 use Rattle.network_tables.specs.declared.Tram.{Tram}
-use Rattle.network_tables.specs.Fields.{tram_fields, signal_at}
+use Rattle.network_tables.specs.Fields.{signal_at}
 use Rattle.network_tables.specs.Tables.{TramTable}
 use Rattle.network_trams.specs.Claims.{LoadAsked}
 use Rattle.network_trams.proofs.Ready.{trams-ready}
