@@ -61,10 +61,10 @@ fn add_movements(row: &mut [u32], line: &[u32], movements: &[Movement], counts: 
     requires { Room counts line.now movements.now row.old }
     ensures { Added counts line.now movements.now row.old counts.movements row.new }
 {
-    for j in 0..counts.movements {
+    for (j, movement) in movements[..counts.movements].iter().enumerate() {
         let volume = moved(line, counts, j);
-        let to = 2 * (movements[j].to as usize - 1);
-        let from = 2 * (movements[j].from as usize - 1) + 1;
+        let to = 2 * (movement.to as usize - 1);
+        let from = 2 * (movement.from as usize - 1) + 1;
         add_at(row, to, volume);
         add_at(row, from, volume);
     }
@@ -171,7 +171,7 @@ pub fn next_waiting(step: &[u32], line: &[u32], counts: Counts, waiting: &mut [u
     requires { WaitsAsked counts step.now line.now waiting.old }
     ensures { Waits counts step.now line.now counts.links waiting.new }
 {
-    for i in 0..counts.links {
-        waiting[i] = step[1 + i] - admitted(line, counts, i);
+    for (i, vehicles) in waiting[..counts.links].iter_mut().enumerate() {
+        *vehicles = step[1 + i] - admitted(line, counts, i);
     }
 }

@@ -266,8 +266,8 @@ pub fn shown_phases(signals: &[Signal], count: usize, masks: &[u32], phases: &mu
     requires { (count ≤ max_signals) × (length signals.now ≡ max_signals) × (count ≤ length masks.now) × (length phases.old ≡ max_signals) }
     ensures { ShownPhases signals.now count masks.now phases.old phases.new }
 {
-    for i in 0..count {
-        phases[i] = phase_of(masks[i], signals[i].phases);
+    for (r, signal) in signals[..count].iter().enumerate() {
+        phases[r] = phase_of(masks[r], signal.phases);
     }
 }
 
@@ -303,7 +303,7 @@ pub fn advance(signals: &mut [Signal], count: usize, phases: &[u32], asked: &[u3
     requires { AdvanceAsked signals.old count phases.now asked.now seconds }
     ensures { Advanced signals.old count phases.now asked.now seconds signals.new }
 {
-    for i in 0..count {
-        step_on(&mut signals[i], phases[i], asked[i], seconds);
+    for (r, signal) in signals[..count].iter_mut().enumerate() {
+        step_on(signal, phases[r], asked[r], seconds);
     }
 }
