@@ -1,5 +1,5 @@
 // A refusal, by which checks in order tell the first that is broken. The definition stands in specs/; proofs/ has its
-// laws, against which the labelled searches of the crates above are proved.
+// laws, by which the checks of the crates above and the labelled search of step_check are proved.
 #![tactic(auto)]
 
 ghost use Rattle.std.specs.Prelude.{◌≡◌, ◌<◌};

@@ -61,7 +61,7 @@ fn valid_past(
     // `as`, not `u64::from`: a cast tells that the field fits 32 bits.
     let came = entered + link.waiting as u64 + u64::from(demands[i]);
     let limit = 72_000_000 + 13_800_000 * past as u64 + link.standing as u64;
-    (network_tables::times(left, seconds) <= arrived)
+    (network_tables::product(left, seconds) <= arrived)
         & (entered <= link.capacity as u64 + u64::from(left))
         & (came <= limit)
 }

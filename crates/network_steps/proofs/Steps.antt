@@ -15,6 +15,7 @@ use Rattle.network_tables.specs.Fields.{step_size, length_in, demand_in}
 use Rattle.network_tables.specs.Rows.{LineHeld, ReadAgain, RowRead}
 use Rattle.network_tables.proofs.Rows.{row_joined}
 use Rattle.network_tables.specs.Blocks.{block_checks, ReadTo, Records, step_block}
+use Rattle.network_tables.specs.Sums.{EachFits, EachAdded}
 use Rattle.network_tables.specs.Tables.{Judged, StepNumbers}
 use Rattle.network_tables.proofs.Tables.{step-length-at, demand-at}
 use Rattle.network_tables.proofs.Places.{step-line-is}
@@ -22,7 +23,7 @@ use Rattle.network_tables.proofs.Blocks.{passed-all, block-begin, block-end, rec
 use Rattle.network_tables.proofs.Stages.{judged-refused, judged-passed}
 use Rattle.step_arrivals.specs.Timed.{TimeSet, TimedTo}
 use Rattle.step_arrivals.proofs.Timed.{timed-next}
-use Rattle.network_steps.specs.Steps.{valid_step_in, AddAsked, Added, StepsAsked, StepsHeld}
+use Rattle.network_steps.specs.Steps.{valid_step_in, StepsAsked, StepsHeld}
 use Rattle.model.proofs.Limits.{limits-of-step}
 use Rattle.network_steps.proofs.Values.{step-within, cut-long, cut-at, valid-step-is}
 use Rattle.std.specs.Prelude.{Option, Some, None, Ok, Err}
@@ -48,13 +49,6 @@ module _ {text : List ℕ} {at links : ℕ} {old : List ℕ} {next : ℕ} {step 
 
   pub again-next : Starts text next (step_line (lines text) (suc n))
   again-next = rw (step-line-suc (lines text) n) held.starts
-
--- ---- the turns of `add_demands`
-pub record AddedTo (demands before sums : List ℕ) (n : ℕ) : Type 0 where
-  pub within : n ≤ length demands
-  pub size : length sums ≡ length before
-  pub added : (i : ℕ) → i < n → get_or sums i 0 ≡ get_or before i 0 + get_or demands i 0
-  pub rest : (i : ℕ) → n ≤ i → get_or sums i 0 ≡ get_or before i 0
 
 -- ---- the loop over all lines
 step-records : (network : List Line) → Records network (step_block network) letter_s (1 + link_count network) 6 (valid_step network)
@@ -158,7 +152,7 @@ module _ {text : List ℕ} {reading : Reading} {times₀ demands₀ : List ℕ} 
         demands-at i l = rw cut_is (cut-at after reading.counts.links (row.size ∙ inv.step_room) asked.reached.counted.few.links i l)
 
         -- no sum of demands is too large
-        pub add-asked : not v ≡ false → AddAsked cut demands
+        pub add-asked : not v ≡ false → EachFits cut demands
         add-asked b =
             record {
               few = omega (arith, demands-long, inv.demand-room, asked.reached.counted.few.links);
@@ -188,7 +182,7 @@ module _ {text : List ℕ} {reading : Reading} {times₀ demands₀ : List ℕ} 
               rw (same-timed got.told, p) at (timed-next inv.timed-to (omega (arith, below)) lasts (rw (q, asked.reached.counted.past) at got))
 
           pub steps_next : {m : ℕ} → m ≡ reading.counts.past + n → {timed : Bool} {times' : List ℕ} → TimeSet times m seconds reading.timed timed times'
-              → {demands' : List ℕ} → Added cut demands demands' → StepsTo text reading.timed times' demands' after next (n + 1)
+              → {demands' : List ℕ} → EachAdded cut demands demands' → StepsTo text reading.timed times' demands' after next (n + 1)
           unfolding sum
           steps_next q got sums =
               record {

@@ -17,16 +17,6 @@ valid_demands_in demands = every (length demands) (λ i. leb (get_or demands i 0
 unfoldable pub valid_step_in : ℕ → List ℕ → ℕ → Bool
 valid_step_in seconds demands shortest = within 1 seconds 60 and leb seconds shortest and valid_demands_in demands
 
--- what adding demands to their sums asks: no sum is too large ..
-pub record AddAsked (demands sums : List ℕ) : Type 0 where
-  pub few : length demands ≤ length sums
-  pub fits : (i : ℕ) → i < length demands → get_or sums i 0 + get_or demands i 0 < 4294967296
-
--- .. and gives
-pub record Added (demands before after : List ℕ) : Type 0 where
-  pub size : length after ≡ length before
-  pub added : (i : ℕ) → i < length demands → get_or after i 0 ≡ get_or before i 0 + get_or demands i 0
-
 -- what the reading of all `S` lines asks ..
 pub record StepsAsked (text : List ℕ) (reading : Reading) (times demands : List ℕ) : Type 0 where
   pub reached : Reached text (step_line (lines text) 0) reading

@@ -5,7 +5,7 @@ ghost use Rattle.std.specs.Prelude.{◌≡◌};
 ghost use Rattle.text_reader.specs.Lines.{lines};
 ghost use Rattle.network_tables.specs.Tables.{Judged};
 ghost use Rattle.network_tables.specs.Blocks.{block_checks, step_block};
-ghost use Rattle.network_steps.specs.Steps.{valid_demands_in, valid_step_in, AddAsked, Added, StepsAsked, StepsHeld};
+ghost use Rattle.network_steps.specs.Steps.{valid_demands_in, valid_step_in, StepsAsked, StepsHeld};
 
 use base_search::{Reason, Refusal};
 use network_tables::{MAX_SECONDS, Reading, STEP_SIZE};
@@ -25,16 +25,6 @@ fn valid_step(seconds: u32, demands: &[u32], shortest: u32) -> bool
     ensures { result ≡ valid_step_in seconds demands.now shortest }
 {
     (1..=MAX_SECONDS).contains(&seconds) & (seconds <= shortest) & valid_demands(demands)
-}
-
-// Adds the demand of each link in a step to its sum, which fits 32 bits.
-fn add_demands(demands: &[u32], sums: &mut [u32])
-    requires { AddAsked demands.now sums.old }
-    ensures { Added demands.now sums.old sums.new }
-{
-    for (i, demand) in demands.iter().enumerate() {
-        sums[i] += *demand;
-    }
 }
 
 // Refusals 1 and 6: reads the `S` lines, sets the time of each boundary, if the past is timed, and sums up the demands of each link.
@@ -61,7 +51,7 @@ pub fn read_steps(
             return Err(Reason::Step.refusal(line, n + 1));
         }
         step_arrivals::next_time(times, counts.past + n, seconds, reading.timed);
-        add_demands(asked, demands);
+        network_tables::add_each(asked, demands);
     }
     Ok(Reading {
         next: place,

@@ -4,3 +4,4 @@ pub mod Rows
 pub mod Blocks
 pub mod Stages
 pub mod Every
+pub mod Sums

@@ -11,7 +11,7 @@ ghost use Rattle.text_reader.specs.Lines.{lines};
 ghost use Rattle.text_reader.specs.Reading.{Starts};
 ghost use Rattle.network_tables.specs.Rows.{RowRead, ReadAgain, HeadRead};
 ghost use Rattle.network_tables.specs.Blocks.{Block, Judges, RowsJudged, RowsHeld};
-ghost use Rattle.network_tables.specs.Sums.{Summed};
+ghost use Rattle.network_tables.specs.Sums.{Summed, EachFits, EachAdded};
 ghost use Rattle.network_tables.specs.Tables.{moved_to, TablesSized};
 
 use base_search::{Reason, Refusal};
@@ -192,6 +192,7 @@ pub struct Reading {
     pub counts: Counts,
     pub next: usize,
     pub trams_at: usize,
+    // Read by no function; kept, since a reading that has passed promises it (`signals-start`).
     pub signals_at: usize,
     pub past_at: usize,
     pub steps_at: usize,
@@ -208,7 +209,8 @@ impl Reading {
     }
 }
 
-// A network's text and what its reading gives, but for its signals, which change from step to step: all tables are lent.
+// A network's text and what its reading gives, but for its signals, which change from step to step: all tables are lent. They are whole, with the counts beside
+// them, as functions asked for tables of the largest size before: a cut one would ask for another.
 #[derive(Clone, Copy)]
 pub struct NetworkTables<'a> {
     pub text: &'a [u8],
@@ -286,7 +288,7 @@ impl Counts {
 }
 
 // The whole product of two numbers of 32 bits.
-pub fn times(a: u32, b: u32) -> u64
+pub fn product(a: u32, b: u32) -> u64
     ensures { result ≡ a * b }
 {
     u64::from(a) * u64::from(b)
@@ -361,7 +363,18 @@ pub fn add_numbers(numbers: &[u32], sums: &mut [u32]) -> Option<()>
     Some(())
 }
 
-// The numbers of an `S` line: its length, and the demand of link `i`. It and a `P` line are lent as slices, by structs that say how long they are.
+// Adds numbers to sums that fit 32 bits.
+pub fn add_each(numbers: &[u32], sums: &mut [u32])
+    requires { EachFits numbers.now sums.old }
+    ensures { EachAdded numbers.now sums.old sums.new }
+{
+    for (k, number) in numbers.iter().enumerate() {
+        sums[k] += *number;
+    }
+}
+
+// The numbers of an `S` line: its length, and the demand of link `i`. It and a `P` line are slices: a reference to an array would be a narrower type than
+// callers lent before. `i < max_links` is a clause of each: an index type that holds it would ask each caller to make one first.
 pub fn step_length(step: &[u32]) -> u32
     requires { length step.now ≡ step_size }
     ensures { result ≡ length_in step.now }
@@ -376,7 +389,7 @@ pub fn demand(step: &[u32], i: usize) -> u32
     step[1 + i]
 }
 
-// The numbers of a `P` line: what it admits on link i, lets out from link i, and moves by movement j. Line and counts stay two parameters: a `Step` has both, and the
+// The numbers of a `P` line, a slice as an `S` line is: what it admits on link i, lets out from link i, and moves by movement j. Line and counts stay two parameters: a `Step` has both, and the
 // other callers have a line of their own beside a network's counts.
 pub fn admitted(line: &[u32], counts: Counts, i: usize) -> u32
     requires { Few counts × (i < max_links) × (length line.now ≡ line_size) }

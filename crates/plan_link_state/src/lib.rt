@@ -81,8 +81,8 @@ fn state_from(entered: u32, left: u32, arrived: Arrived) -> Result<LinkState, Re
     let scaled = arrived.scaled;
     let seconds = arrived.seconds;
     let agrees = arrived.rises
-        & (network_tables::times(left, seconds) <= scaled)
-        & (scaled <= network_tables::times(entered, seconds));
+        & (network_tables::product(left, seconds) <= scaled)
+        & (scaled <= network_tables::product(entered, seconds));
     checked(agrees, Reason::StateLedger, 0, 0)?;
     let whole = (scaled / u64::from(seconds)) as u32;
     Ok(LinkState {

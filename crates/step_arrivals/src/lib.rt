@@ -57,6 +57,6 @@ pub fn scaled_arrived(start: u32, end: u32, seconds: u32, elapsed: u32) -> u64
     requires { (seconds ≤ 7200) × (elapsed ≤ 7200) }
     ensures { result ≡ scaled_in start end seconds elapsed }
 {
-    network_tables::times(start, seconds)
-        + network_tables::times(end.saturating_sub(start), elapsed)
+    network_tables::product(start, seconds)
+        + network_tables::product(end.saturating_sub(start), elapsed)
 }

@@ -47,7 +47,7 @@ impl StepRows<'_> {
         }
         let all = self.moved_from(self.step.from_link(j));
         let share = self.step.movements[j].share;
-        network_tables::times(WHOLE_SHARE, volume) <= network_tables::times(share, all)
+        network_tables::product(WHOLE_SHARE, volume) <= network_tables::product(share, all)
     }
 
     // Entered of link i at the start of the step of the timeline in which its travel time ends: a past one's as it arrived, a later one's as the ledger has it.
@@ -103,7 +103,7 @@ impl StepRows<'_> {
             step.counts.past + step.boundary + 1,
             step.links[i].travel_time,
         );
-        network_tables::times(left, seconds)
+        network_tables::product(left, seconds)
             <= step_arrivals::scaled_arrived(start, end, seconds, elapsed)
     }
 

@@ -19,8 +19,8 @@ returns-then-not-valid_step c =
     let read : c.read_row-read.result ≡ Some c.in_ok-place.place = grind arith in
     search (steps-invalid, rules)
 
-pub add_demands-requires : goal.add_demands-requires
-add_demands-requires c =
+pub add_each-requires : goal.add_each-requires
+add_each-requires c =
     let read : c.read_row-read.result ≡ Some c.in_ok-place.place = grind arith in
     add-asked c.requires c.loop-n.invariant (search rules) c.step_width-width.ensures c.read_row-read.ensures
     read c.step_length-seconds.ensures c.valid_step.ensures c.if-not-valid_step.false-raw
@@ -30,7 +30,7 @@ loop-n-preserved c =
     let read : c.read_row-read.result ≡ Some c.in_ok-place.place = grind arith in
     steps_next c.requires c.loop-n.invariant (search rules) c.step_width-width.ensures c.read_row-read.ensures
     read c.step_length-seconds.ensures c.valid_step.ensures c.if-not-valid_step.false-raw
-    refl c.next_time.ensures c.add_demands.ensures
+    refl c.next_time.ensures c.add_each.ensures
 
 pub returns : goal.returns
 returns c = search (steps-done, rules)

@@ -7,20 +7,20 @@ use Rattle.plan_link_state.proofs.state_from.Goals as goal
 
 pub returns-in_err-checked : goal.returns-in_err-checked
 unfolding ◌and◌
-returns-in_err-checked c = rw (passed_on _ _ c.from_residual.ensures.1) (disagrees _ _ _ c.times.ensures c.times-2.ensures c.checked.ensures c.in_err-checked.was)
+returns-in_err-checked c = rw (passed_on _ _ c.from_residual.ensures.1) (disagrees _ _ _ c.product.ensures c.product-2.ensures c.checked.ensures c.in_err-checked.was)
 
 pub overflow_cast-whole : goal.overflow_cast-whole
 unfolding ◌and◌
-overflow_cast-whole c = let h = between _ _ _ c.times.ensures c.times-2.ensures c.checked.ensures c.in_ok-checked.was in search rules
+overflow_cast-whole c = let h = between _ _ _ c.product.ensures c.product-2.ensures c.checked.ensures c.in_ok-checked.was in search rules
 
 pub overflow_sub-result : goal.overflow_sub-result
 unfolding ◌and◌
-overflow_sub-result c = let h = between _ _ _ c.times.ensures c.times-2.ensures c.checked.ensures c.in_ok-checked.was in search rules
+overflow_sub-result c = let h = between _ _ _ c.product.ensures c.product-2.ensures c.checked.ensures c.in_ok-checked.was in search rules
 
 pub overflow_sub-result-2 : goal.overflow_sub-result-2
 unfolding ◌and◌
-overflow_sub-result-2 c = let h = between _ _ _ c.times.ensures c.times-2.ensures c.checked.ensures c.in_ok-checked.was in search rules
+overflow_sub-result-2 c = let h = between _ _ _ c.product.ensures c.product-2.ensures c.checked.ensures c.in_ok-checked.was in search rules
 
 pub returns : goal.returns
 unfolding ◌and◌
-returns c = state-agrees _ _ _ c.times.ensures c.times-2.ensures c.checked.ensures c.in_ok-checked.was c.from.ensures
+returns c = state-agrees _ _ _ c.product.ensures c.product-2.ensures c.checked.ensures c.in_ok-checked.was c.from.ensures
