@@ -195,7 +195,8 @@ fn write_carried(
     network_writer::write_measured(Reason::CarriedRoom, carried, put)
 }
 
-// Takes the plan's steps up to the boundary, and writes the text from there on: 9 for a line behind them, and 32 last.
+// Takes the plan's steps up to the boundary, and writes the text from there on: 9 for a line behind them, and 32 last. Apart from `carry_from`, of the same
+// parameters: in one function each of the four facts behind `take_steps` would show again what `StepsAsked` says once.
 fn carry_steps(
     tables: &NetworkTables,
     boundary: usize,

@@ -58,7 +58,7 @@ Placed (LetOut i n) = (1 ≤ n) × (n ≤ max_steps) × (1 ≤ i) × (i ≤ max_
 Placed (Moved j n) = (1 ≤ n) × (n ≤ max_steps) × (1 ≤ j) × (j ≤ max_movements)
 
 -- ---- what the tables of a network say: what it has, and how long a step is
--- a number counted from 1 to `count`, from 0
+-- the index, from 0, of what is counted from 1; none unless the number is one of 1 to `count`
 abbrev pub index_in : ℕ → ℕ → Option ℕ
 index_in number count = cond (within 1 number count) (Some (number - 1)) None
 

@@ -48,7 +48,7 @@ struct Tables<'a> {
     ghost fit: { TablesFit counts signals.now times.now },
 }
 
-// A number counted from 1 to `count`, from 0.
+// The index, from 0, of what is counted from 1; none unless the number is one of 1 to `count`.
 #[tactic(auto, using(crate::proofs::Tests::tests))]
 fn index_in(number: u64, count: usize) -> Option<usize>
     ensures value { result ≡ index_in number count }
@@ -201,7 +201,7 @@ fn phase_bit(phase: u64) -> u32
     }
 }
 
-// A rate over some seconds, in thousandths of a vehicle.
+// A rate over some seconds, in thousandths of a vehicle. 6 lets no step last more than 60 seconds, so that the product, here and in `number_of`, fits a `u64`.
 #[tactic(auto, using(crate::proofs::Tests::tests), unfolding(crate::specs::Listing::is_volume, crate::specs::Listing::volume))]
 fn volume_of(millionths: u64, seconds: u32) -> Option<u32>
     requires small { millionths < 10 ^ 16 }

@@ -140,7 +140,8 @@ pub fn write_measured<F: Fn(&mut [u8]) -> usize>(
     Ok(length)
 }
 
-// Writes a plan's text by a table with a row for each step: refusal 24 where the buffer is too short. The counts stand beside the rows, which they part into columns.
+// Writes a plan's text by a table with a row for each step: refusal 24 where the buffer is too short. Rows and counts are in no
+// struct with the fact `PlanAsked`, that there is a row for each step: each caller has filled its table for this call alone, and would build the struct for it.
 pub fn write_plan<const C: usize>(
     rows: &[[u32; C]],
     counts: Counts,

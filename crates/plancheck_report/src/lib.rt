@@ -51,7 +51,8 @@ fn time_of(tables: &NetworkTables, n: usize) -> u32
 }
 
 // Writes the `B` record of a boundary: its number, its time, and its row of the ledger.
-// Buffer and place go apart, as into each call of text_writer: a struct of the two would be taken apart again here.
+// Buffer and place go apart, as into each call of text_writer: a struct of the two would be taken apart again here. Not network_writer's `Output`: it takes no
+// `u64`, which the totals are, and leaves out a line that has no room, where the contracts here say that all is written.
 fn write_boundary(out: &mut [u8], at: usize, n: usize, time: u32, row: &[u32]) -> usize
     requires { (length row.now ≤ row_size) × (at + 1052 ≤ length out.old) }
     ensures { Wrote (record_text 66 (n ∷ time ∷ row.now)) at out.old out.new result }
@@ -138,7 +139,7 @@ fn write_judged(
     write_answer(out, tables, answer, &ledger)
 }
 
-// Writes the report of two texts that were read.
+// Writes the report of two texts that were read. A longer buffer is taken too: `&mut [u8; OUTPUT_SIZE]` would ask more of a caller.
 pub fn write_report(network: &[u8], plan: &[u8], out: &mut [u8]) -> usize
     requires { OUTPUT_SIZE ≤ length out.old }
     ensures wrote { Wrote (report network.now plan.now) 0 out.old out.new result }

@@ -33,7 +33,8 @@ fn phase_after(phase: u32, phases: u32) -> u32
     if phase == phases { 1 } else { phase + 1 }
 }
 
-// The cycle of a signal of so many phases, by its line of a sheet that has passed.
+// The cycle of a signal of so many phases, by its line of a sheet that has passed. The offset stays in the line, behind the durations: the definitions
+// (`CycleLine`, `phase_at`) have both as one function of the place, so that a field for each would be joined again in every contract.
 #[derive(Clone, Copy)]
 struct Cycle<'a> {
     line: &'a [u32],

@@ -77,6 +77,7 @@ fn move_one(vehicle: Vehicle, ahead: Obstacle, red_lines: &[f64], spacing: f64) 
     let target = red_lines.iter().fold(start, |target, line| {
         cut_to(line_for(place, *line), spacing, target)
     });
+    // Not `f64::max`, for the same reason as in `cut_at`.
     if place < target { target } else { place }
 }
 
