@@ -17,7 +17,7 @@ pub struct Form {
 pub const PATHS: [&str; 2] = ["cases.bin", "wrong_answer.bin"];
 
 // Runs the files of a program, and prints how many cases there are at each place, under these names. The counts are lent: an array of references whose
-// length is a parameter gets no proof.
+// length is a parameter gets no proof. Here and below `run_case` asks nothing (`IsAlwaysCallable`), since nothing is known of what a file gives.
 pub fn run<R: Files + Print, F: Fn(&mut R::File, u32) -> Result<usize, Malformed>>(
     rt: &R,
     form: Form,

@@ -14,7 +14,7 @@ const MAX_NETWORK_SIZE: usize = 16_384;
 
 const MAX_PLAN_SIZE: usize = 24_576;
 
-// Writes what is to be printed of two texts, of which each was read or not.
+// Writes what is to be printed of two texts, of which each was read or not. The buffer may be longer, as in `write_report`.
 fn write_output(network: Option<&[u8]>, plan: Option<&[u8]>, out: &mut [u8]) -> usize
     requires network_length { IfSome network (λ text. length text.now ≤ MAX_NETWORK_SIZE) }
     requires plan_length { IfSome plan (λ text. length text.now ≤ MAX_PLAN_SIZE) }
