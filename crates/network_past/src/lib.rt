@@ -13,7 +13,14 @@ use base_search::{Reason, Refusal};
 use network_tables::{MAX_LINKS, MAX_STEPS, NetworkTables, PAST_SIZE, ROW_SIZE, Reading};
 use step_past::Arrival;
 
-// The `H` lines: each line's form (refusal 1), and the times of the boundaries of the past, if its lengths are valid and all steps are few enough.
+// How many vehicles come to a link's entry in all steps at most: 120 demands of 600,000.
+const MAX_OFFERED: u64 = 72_000_000;
+
+// How many vehicles 23 movements of 10,000 a second bring to a link in a step of 60 seconds.
+const MAX_BROUGHT: u64 = 13_800_000;
+
+// The `H` lines: each line's form (refusal 1), and the times of the boundaries of the past, if its lengths are valid and all steps are few enough. Not by `read_rows`:
+// the lines are kept in no table, but only their times.
 pub fn read_past(text: &[u8], reading: Reading, times: &mut [u32]) -> Result<Reading, Refusal>
     requires { FormsAsked text.now reading times.old }
     ensures { Judged (block_checks (past_block (lines text.now))) (FormsHeld text.now times.new) result }
@@ -60,7 +67,7 @@ fn valid_past(
     let left = network_tables::left(row, i);
     // `as`, not `u64::from`: a cast tells that the field fits 32 bits.
     let came = entered + link.waiting as u64 + u64::from(demands[i]);
-    let limit = 72_000_000 + 13_800_000 * past as u64 + link.standing as u64;
+    let limit = MAX_OFFERED + MAX_BROUGHT * past as u64 + link.standing as u64;
     (network_tables::product(left, seconds) <= arrived)
         & (entered <= link.capacity as u64 + u64::from(left))
         & (came <= limit)

@@ -8,7 +8,8 @@ ghost use Rattle.step_arrivals.specs.Timed.{TimeAsked, TimeSet};
 
 use network_tables::MAX_SECONDS;
 
-// Sets the time at the end of step `m`, if it and all steps before it last 1 to 60 seconds; else the table is kept.
+// Sets the time at the end of step `m`, if it and all steps before it last 1 to 60 seconds; else the table is kept. Whether they do goes in and comes out as a
+// `bool`, as `Reading.timed` has it: 30 is told after all lines, so that no line is refused for it.
 pub fn next_time(times: &mut [u32], m: usize, seconds: u32, timed: bool) -> bool
     requires { TimeAsked times.old m timed }
     ensures { TimeSet times.old m seconds timed result times.new }
