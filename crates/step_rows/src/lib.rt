@@ -56,7 +56,7 @@ fn add_at(row: &mut [u32], at: usize, volume: u32)
     }
 }
 
-// Adds each movement of the line to what has entered its to link and to what has left its from link. By index: it goes over the line and the movements together.
+// Adds each movement of the line to what has entered its to link and to what has left its from link.
 fn add_movements(row: &mut [u32], line: &[u32], movements: &[Movement], counts: Counts)
     requires { Room counts line.now movements.now row.old }
     ensures { Added counts line.now movements.now row.old counts.movements row.new }
@@ -160,9 +160,7 @@ pub fn add_waiting(waiting: &[u32], step: &mut [u32])
     requires { AddAsked waiting.now step.old }
     ensures { Offers (length waiting.now) waiting.now step.old step.new }
 {
-    for (i, vehicles) in waiting.iter().enumerate() {
-        step[1 + i] += *vehicles;
-    }
+    network_tables::add_each(waiting, &mut step[1..]);
 }
 
 // Who waits after a step that is kept: who was at the entry in the step and was not admitted. The counts stand beside the tables, which go together by one index

@@ -1,7 +1,6 @@
 -- `step_rows::add_movements` meets its contract. The invariant: the first j movements have been added to the row. Each store has room, since what is added so far is at most what all movements add.
-use Rattle.base_laws.proofs.Kit.{◌≤◌}
 use Rattle.step_rows.specs.Rows.{Added}
 use Rattle.step_rows.proofs.add_movements.Given as goal
 
 abbrev pub invariant-loop-j : goal.invariant-loop-j
-invariant-loop-j l = (l.j ≤ l.counts.movements) × Added l.counts l.line l.movements l.initial.row l.j l.row
+invariant-loop-j l = Added l.counts l.line l.movements l.initial.row l.j l.row

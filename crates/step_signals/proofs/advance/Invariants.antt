@@ -1,7 +1,6 @@
--- `step_signals::advance` meets its contract. The loop's invariant: the first i signals are a step on, the others as they were.
-use Rattle.base_laws.proofs.Kit.{◌≤◌}
-use Rattle.step_signals.specs.Step.{Advanced}
+-- `step_signals::advance` meets its contract. The loop's invariant: of the table's part the first r signals are a step on, the others as they were.
+use Rattle.step_signals.proofs.Cuts.{AdvancedTo}
 use Rattle.step_signals.proofs.advance.Given as goal
 
-abbrev pub invariant-loop-i : goal.invariant-loop-i
-invariant-loop-i l = (l.i ≤ l.count) × Advanced l.initial.signals l.i l.phases l.asked l.seconds l.signals
+abbrev pub invariant-loop-r : goal.invariant-loop-r
+invariant-loop-r l = AdvancedTo l.initial.signal-items l.r l.phases l.asked l.seconds l.signal-items

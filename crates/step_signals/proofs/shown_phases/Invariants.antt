@@ -3,5 +3,5 @@ use Rattle.base_laws.proofs.Kit.{◌≤◌}
 use Rattle.step_signals.specs.Step.{ShownPhases}
 use Rattle.step_signals.proofs.shown_phases.Given as goal
 
-abbrev pub invariant-loop-i : goal.invariant-loop-i
-invariant-loop-i l = (l.i ≤ l.count) × ShownPhases l.signals l.i l.masks l.initial.phases l.phases
+abbrev pub invariant-loop-r : goal.invariant-loop-r
+invariant-loop-r l = (l.r ≤ l.count) × ShownPhases l.signals l.r l.masks l.initial.phases l.phases

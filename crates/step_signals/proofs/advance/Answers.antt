@@ -1,0 +1,11 @@
+use Rattle.step_signals.proofs.Cuts.{advancing-none, ready-part, advanced-part}
+use Rattle.step_signals.proofs.advance.Goals as goal
+
+pub loop-r-init : goal.loop-r-init
+loop-r-init c = advancing-none
+
+pub step_on-requires-clause-ready : goal.step_on-requires-clause-ready
+step_on-requires-clause-ready c = ready-part c.requires c.loop-r-test.true c.loop-r.invariant
+
+pub returns : goal.returns
+returns c = advanced-part c.requires c.loop-r-test.false c.loop-r.invariant
