@@ -1,7 +1,5 @@
 -- The `H` lines read again for one link.
 use Rattle.base_laws.proofs.Kit.{ℕ, suc, ◌+◌, ◌*◌, ◌≤◌, ◌<◌, ◌≡◌, ap, ◌∙◌, List, [], add-one, arith, length, get_or}
-use mir.Syntax.{w32}
-use mir.Val.{Fits}
 use Rattle.text_reader.specs.Lines.{Line, lines}
 use Rattle.text_reader.specs.Reading.{Starts}
 use Rattle.model.specs.Network.{link_count, past_count, timeline_line, past_entries}
@@ -58,8 +56,8 @@ module _ {text : List ℕ} {links i from to : ℕ} {first : Arrival} (asked : Re
       entered-next =
           omega (arith, inv.curve-to.ended, entered-past (lines text) m i below, past-entries-at (past-numbers m line (read.size ∙ inv.size)) i (omega (arith, asked.counted, asked.link)))
 
-      pub stop-fits : Fits w32 (arrival.stop + get_or after (1 + 2 * i) 0)
-      stop-fits = record { fits = omega (arith, entered-next, asked.fits (suc m) (omega arith)) }
+      pub stop-fits : arrival.stop + get_or after (1 + 2 * i) 0 < 4294967296
+      stop-fits = omega (arith, entered-next, asked.fits (suc m) (omega arith))
 
       pub read-next : ReadTo text i to after (record { step = m; start = arrival.stop; stop = arrival.stop + get_or after (1 + 2 * i) 0; place = next }) (m + 1)
       read-next =

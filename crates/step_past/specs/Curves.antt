@@ -134,11 +134,15 @@ pub record MoveTables (tables : NetworkTables) : Type 0 where
   pub forms : PastForms (lines tables.text.now)
   pub fits : (i : ℕ) → i < link_count (lines tables.text.now) → (m : ℕ) → m ≤ past_count (lines tables.text.now) → past_entered (lines tables.text.now) m i < 4294967296
 
+-- what link i waits for at an `H` line, by what it waited for at the one before
+abbrev pub arrival_after : PastLine → ℕ → Arrival → Arrival
+arrival_after line i before = record { step = line.step; start = before.stop; stop = before.stop + past_entries_in line.fields.now i; place = line.next }
+
 -- An `H` line moves link i on to a boundary that is so many seconds past the start of the line's step, if the link is at the step before it and its travel time
 -- ends in the line's step or later; else the link stays.
 pub record MovedBy (line : PastLine) (since i travel : ℕ) (before after : Arrival) : Type 0 where
   pub goes : before.step + 1 ≡ line.step → travel ≤ since
-      → after ≡ record { step = line.step; start = before.stop; stop = before.stop + past_entries_in line.fields.now i; place = line.next }
+      → after ≡ arrival_after line i before
   pub stays : (before.step + 1 ≡ line.step → travel ≤ since → ⊥) → after ≡ before
 
 pub record LinksAsked (line : PastLine) (tables : NetworkTables) (since first : ℕ) (arrivals : List Arrival) : Type 0 where

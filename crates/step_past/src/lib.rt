@@ -5,7 +5,7 @@
 
 ghost use Rattle.std.specs.Prelude.{◌≡◌, ◌+◌, ◌*◌, ◌<◌, ◌≤◌, length};
 ghost use Rattle.network_tables.specs.Fields.{past_entries_in};
-ghost use Rattle.step_past.specs.Curves.{ReadAsked, CurveTo, Started, FindAsked, Found, KeepAsked, Kept, PastAsked, PastLoaded, LinksAsked, LinksMoved, MoveAsked, PastMoveAsked, Moved, NextAsked, NextGot};
+ghost use Rattle.step_past.specs.Curves.{ReadAsked, CurveTo, Started, FindAsked, Found, KeepAsked, Kept, PastAsked, PastLoaded, LinksAsked, LinksMoved, MoveAsked, PastMoveAsked, Moved, NextAsked, NextGot, arrival_after};
 
 use network_tables::{Link, NetworkTables, PAST_SIZE};
 
@@ -36,9 +36,24 @@ impl PastLine<'_> {
     {
         self.fields[1 + 2 * i]
     }
+
+    // What link `i` waits for at the line, by what it waited for at the one before.
+    fn after(&self, arrival: Arrival, i: usize) -> Arrival
+        requires within { 1 + 2 * i < length self.now.fields.now }
+        requires fits { arrival.stop + past_entries_in self.now.fields.now i < 4294967296 }
+        ensures { result ≡ arrival_after self.now i arrival }
+    {
+        Arrival {
+            step: self.step,
+            start: arrival.stop,
+            stop: arrival.stop + self.entries(i),
+            place: self.next,
+        }
+    }
 }
 
-// Reads `H` lines `from` to `to` - 1 for link `i`.
+// Reads `H` lines `from` to `to` - 1 for link `i`. `from` stays, though it is 0 where it is called: what the function promises holds from any line on. The width is by
+// hand, since a caller gives the count of links alone.
 pub fn read_on(
     text: &[u8],
     links: usize,
@@ -54,12 +69,12 @@ pub fn read_on(
     let mut fields = [0u32; PAST_SIZE];
     for step in from..to {
         let next = network_tables::read_again(text, arrival.place, b'H', &mut fields[..width]);
-        arrival = Arrival {
+        let line = PastLine {
             step,
-            start: arrival.stop,
-            stop: arrival.stop + fields[1 + 2 * i],
-            place: next,
+            fields: &fields,
+            next,
         };
+        arrival = line.after(arrival, i);
     }
     arrival
 }
@@ -152,12 +167,7 @@ fn move_links(
     for i in first..tables.reading.counts.links {
         let arrival = arrivals[i];
         if (arrival.step == from) & (tables.links[i].travel_time <= since) {
-            arrivals[i] = Arrival {
-                step: line.step,
-                start: arrival.stop,
-                stop: arrival.stop + line.entries(i),
-                place: line.next,
-            };
+            arrivals[i] = line.after(arrival, i);
         }
     }
 }
