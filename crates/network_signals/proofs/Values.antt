@@ -1,7 +1,8 @@
 -- A signal by its numbers: the tests of its values, and what the shortest time says.
-use Rattle.base_laws.proofs.Kit.{ℕ, zero, suc, ◌-◌, ◌≤◌, ◌≡◌, refl, sym, ap, ◌∙◌, fun_ext, Bool, true, false, ◌&&◌, ◌||◌, not, and-true, and_assoc, List, add-one, arith, lt-leb, leb-true, leb-false, le-leb, leb, eqb, length, get_or, take, min}
-use Rattle.std.specs.List.{fold}
+use Rattle.base_laws.proofs.Kit.{ℕ, zero, suc, ◌-◌, ◌≤◌, ◌≡◌, refl, sym, ap, ◌∙◌, fun_ext, Bool, true, false, ◌&&◌, ◌||◌, not, and-true, and_assoc, List, [], ◌∷◌, add-one, arith, lt-leb, leb-true, leb-false, le-leb, leb, eqb, length, get_or, take, min}
+use Rattle.std.specs.List.{fold, list_all, zip}
 use Rattle.std.proofs.lemmas.List.Sums.{fold_more}
+use Rattle.network_tables.proofs.Every.{every-first}
 use Rattle.text_reader.specs.Lines.{Line}
 use Rattle.model.specs.declared.Signal.{Signal}
 use Rattle.base_laws.specs.Test.{◌and◌, ◌or◌, within, every}
@@ -17,6 +18,16 @@ unfolding shortest_time
 shortest-fold s zero x h = refl
 shortest-fold s (suc n) x h =
     rw (← add-one n, fold_more min x s.greatest n 0 (omega arith), shortest-fold s n x (omega arith)) refl
+
+-- the test of the first n of two lists in pairs
+pub pairs-every : (test : ℕ → ℕ → Bool) (n : ℕ) (xs ys : List ℕ) → n ≤ length xs → n ≤ length ys
+    → list_all (λ p. test p.0 p.1) (zip (take n xs) (take n ys)) ≡ every n (λ k. test (get_or xs k 0) (get_or ys k 0))
+unfolding every
+pairs-every test zero xs ys h g = refl
+pairs-every test (suc n) [] ys h g = absurd (omega arith)
+pairs-every test (suc n) (x ∷ xs) [] h g = absurd (omega arith)
+pairs-every test (suc n) (x ∷ xs) (y ∷ ys) h g =
+    ap (λ b. test x y && b) (pairs-every test n xs ys (omega arith) (omega arith)) ∙ sym (every-first n (λ k. test (get_or (x ∷ xs) k 0) (get_or (y ∷ ys) k 0)))
 
 -- a signal whose shown phase is none of its phases
 pub shown-none : (s : Signal) → within 1 s.shown s.phases ≡ false → valid_signal s ≡ false

@@ -68,13 +68,16 @@ fn valid_time(least: u32, greatest: u32) -> bool
     (1 <= least) & (least..=LONGEST_TIME).contains(&greatest)
 }
 
-// Refusal 3, the times of every phase: by index, since the least and the greatest times are two tables that go together by one.
+// Refusal 3, the times of every phase.
 fn valid_times(signal: Signal) -> bool
     requires { signal.phases ≤ 8 }
     ensures { result ≡ valid_times signal signal.phases }
 {
     let phases = signal.phases as usize;
-    (0..phases).all(|k| valid_time(signal.least[k], signal.greatest[k]))
+    signal.least[..phases]
+        .iter()
+        .zip(&signal.greatest[..phases])
+        .all(|(&least, &greatest)| valid_time(least, greatest))
 }
 
 // Refusal 3, the rest of a `G` line whose number of phases is valid.

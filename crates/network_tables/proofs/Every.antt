@@ -10,7 +10,7 @@ and-assoc true b c = refl
 and-assoc false b c = refl
 
 -- the first index apart
-every-first : (n : ℕ) (test : ℕ → Bool) → every (suc n) test ≡ (test 0 && every n (λ i. test (suc i)))
+pub every-first : (n : ℕ) (test : ℕ → Bool) → every (suc n) test ≡ (test 0 && every n (λ i. test (suc i)))
 unfolding every ◌and◌
 every-first zero test = rw and-true
 every-first (suc n) test = ap (λ b. b && test (suc n)) (every-first n test) ∙ and-assoc (test 0) (every n (λ i. test (suc i))) (test (suc n))
