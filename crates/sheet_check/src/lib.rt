@@ -104,6 +104,7 @@ fn is_earlier(x: u32, y: u32) -> bool
 }
 
 // Refusal 34: the least of the lines that were found, then the lowest signal. Line and item are 0 for none, as a watch's lines are, and for the same reason.
+// A loop: that the first of equal keys wins, `min_by_key` tells only by its turns (`ran`). Tried behind `filter`, the proof stopped at both arms of a `match`.
 fn check_runs(watches: &[Watch]) -> Result<(), Refusal>
     requires { length watches.now < 4294967296 }
     ensures { result ≡ pass_verdict (λ i. (watch_in watches.now i).broken) (length watches.now) }
