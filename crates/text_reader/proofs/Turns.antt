@@ -52,8 +52,14 @@ module _ (text : List ℕ) (from n v i : ℕ) (inv : Saying text from n v i) whe
   unfolding rest_at located
   absent e = sym (inv.same ∙ rw e)
 
-  pub rest-past : i ≡ length text → Some (number_until v (length text)) ≡ rest_at 10 0 text from
-  rest-past h = rw (← h) (stop (field_past text i (omega arith)))
+  module _ (r : Bool) (e : r ≡ eqb (length (field_at text i)) 0) where
+    pub rest-ended : not r ≡ false → Some (number_until v i) ≡ rest_at 10 0 text from
+    rest-ended t = stop (length_none (field_at text i) (eqb-true (length (field_at text i)) 0 (sym e ∙ not-false r t)))
+
+    pub rest-long : not r ≡ true → (i < length text → n ≡ 0) → None ≡ rest_at 10 0 text from
+    rest-long t full =
+        let some = field-some text i (eqb-false (length (field_at text i)) 0 (sym e ∙ not-true r t)) in
+        absent (rw (some.1, full some.0) (worth-full n v _ _))
 
   module _ (h : i < length text) (s : Bool) (q : s ≡ separator (get_or text i 0)) where
     pub rest-stop : s ≡ true → Some (number_until v i) ≡ rest_at 10 0 text from

@@ -68,29 +68,32 @@ fn shifted(value: u32, b: u32) -> Option<u32>
     value.checked_mul(10)?.checked_add(b - ZERO)
 }
 
-// The number whose digits start at a place, and the place where its field ends: each place is held against the end of the text.
+// The number whose digits start at a place, and the place where its field ends: each place is held against the end of the text. Ten turns at most, which the
+// compiler unrolls: it finds that only a tenth digit can lack room.
 fn digits_from(text: &[u8], from: usize) -> Option<FieldNumber>
     requires { from ≤ length text.now }
     ensures { result ≡ rest_at 10 0 text.now from }
 {
     let mut value: u32 = 0;
-    for (k, &byte) in text[from..].iter().enumerate() {
+    for (k, &byte) in text[from..].iter().take(MAX_DIGITS).enumerate() {
         if is_separator(byte) {
             return Some(FieldNumber {
                 value,
                 next: from + k,
             });
         }
-        if k == MAX_DIGITS || !byte.is_ascii_digit() {
+        let b = u32::from(byte);
+        if !is_digit(b) {
             return None;
         }
         // More digits never bring a number down, so it is given up here.
-        value = shifted(value, u32::from(byte))?;
+        value = shifted(value, b)?;
     }
-    Some(FieldNumber {
-        value,
-        next: text.len(),
-    })
+    let next = text.len().min(from + MAX_DIGITS);
+    if !ends_at(text, next) {
+        return None;
+    }
+    Some(FieldNumber { value, next })
 }
 
 // The number of the field after a tab, and the place where that field ends.

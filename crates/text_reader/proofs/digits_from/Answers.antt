@@ -1,56 +1,46 @@
-use Rattle.std.proofs.Common.{◌∙◌, ap, arith}
-use Rattle.base_laws.proofs.Kit.{add-zero}
-use Rattle.text_reader.specs.Field.{digit}
+use Rattle.std.proofs.Common.{◌+◌, ◌≡◌, ◌∙◌, ap, length, arith, rules}
+use Rattle.base_laws.proofs.Kit.{add-zero, length-append}
 use Rattle.text_reader.specs.Reading.{separator}
-use Rattle.text_reader.proofs.Looks.{tail-size, tail-byte, tail_within}
-use Rattle.text_reader.proofs.Turns.{saying-none, rest-past, rest-stop, rest-full, rest-not, rest-big, rest-turn, digit_low, digit-high}
+use Rattle.text_reader.proofs.Looks.{taken-turn, taken-end}
+use Rattle.text_reader.proofs.Turns.{saying-none, rest-ended, rest-long, rest-stop, rest-not, rest-big, rest-turn, digit_low, digit-high}
 use Rattle.text_reader.proofs.digits_from.Goals as goal
-use Rattle.text_reader.proofs.digits_from.Goals.{then-k-eq-MAX_DIGITS-via-then-k-eq-MAX_DIGITS, then-k-eq-MAX_DIGITS-via-else-k-eq-MAX_DIGITS+then-not-is_ascii_digit}
 
 pub loop-k-init : goal.loop-k-init
-loop-k-init c = (omega arith, rw add-zero (saying-none c.args.text.now c.args.from))
+loop-k-init c = rw add-zero (saying-none c.args.text.now c.args.from)
 
 pub returns-then-is_separator : goal.returns-then-is_separator
 returns-then-is_separator c =
-    let h = tail_within _ _ _ c.requires c.loop-k-test.true in
-    let byte = tail-byte _ _ _ c.requires c.loop-k-test.true in
-    rest-stop _ _ _ _ _ c.loop-k.invariant.1 h _ (c.is_separator.ensures ∙ ap separator byte) c.if-is_separator.true
+    let turn = taken-turn c.take.result.n _ _ c.requires _ (search rules) (search rules) (search rules) _ _ c.loop-k.yielded_by _ _ c.next.ensures.steps _ c.in-Some.is in
+    rw turn.index (rest-stop _ _ _ _ _ c.loop-k.invariant turn.within _ (c.is_separator.ensures ∙ ap separator turn.byte) c.if-is_separator.true)
 
-pub returns-then-k-eq-MAX_DIGITS : goal.returns-then-k-eq-MAX_DIGITS
-unfolding digit
-returns-then-k-eq-MAX_DIGITS c =
-    let h = tail_within _ _ _ c.requires c.loop-k-test.true in
-    let byte = tail-byte _ _ _ c.requires c.loop-k-test.true in
-    let at = c.is_separator.ensures ∙ ap separator byte in
-    elim c.then-k-eq-MAX_DIGITS.branch [
-      | then-k-eq-MAX_DIGITS-via-then-k-eq-MAX_DIGITS w ↦ rest-full _ _ _ _ _ c.loop-k.invariant.1 h _ at c.if-is_separator.false (omega (arith, w.if-k-eq-MAX_DIGITS.true))
-      | then-k-eq-MAX_DIGITS-via-else-k-eq-MAX_DIGITS+then-not-is_ascii_digit w ↦
-          rest-not _ _ _ _ _ c.loop-k.invariant.1 h _ at c.if-is_separator.false _ byte _ w.is_ascii_digit.ensures.value w.if-not-is_ascii_digit.true-raw
-    ]
+pub returns-then-not-is_digit : goal.returns-then-not-is_digit
+returns-then-not-is_digit c =
+    let turn = taken-turn c.take.result.n _ _ c.requires _ (search rules) (search rules) (search rules) _ _ c.loop-k.yielded_by _ _ c.next.ensures.steps _ c.in-Some.is in
+    rest-not _ _ _ _ _ c.loop-k.invariant turn.within _ (c.is_separator.ensures ∙ ap separator turn.byte) c.if-is_separator.false _ (c.from-b.ensures ∙ turn.byte) _ c.is_digit.ensures c.if-not-is_digit.true-raw
 
 pub shifted-requires : goal.shifted-requires
-unfolding digit
-shifted-requires c = rw c.from.ensures (digit_low _ _ c.is_ascii_digit.ensures.value c.if-not-is_ascii_digit.false-raw, digit-high _ _ c.is_ascii_digit.ensures.value c.if-not-is_ascii_digit.false-raw)
+shifted-requires c = (digit_low _ _ c.is_digit.ensures c.if-not-is_digit.false-raw, digit-high _ _ c.is_digit.ensures c.if-not-is_digit.false-raw)
 
 pub returns-in_err-value : goal.returns-in_err-value
-unfolding digit
 returns-in_err-value c =
-    let h = tail_within _ _ _ c.requires c.loop-k-test.true in
-    let byte = tail-byte _ _ _ c.requires c.loop-k-test.true in
+    let turn = taken-turn c.take.result.n _ _ c.requires _ (search rules) (search rules) (search rules) _ _ c.loop-k.yielded_by _ _ c.next.ensures.steps _ c.in-Some.is in
     rw c.from_residual.ensures
-    (rest-big _ _ _ _ _ c.loop-k.invariant.1 h _ byte _ c.is_ascii_digit.ensures.value c.if-not-is_ascii_digit.false-raw
-    (rw c.from.ensures at c.in_err-value.ensures))
+    (rest-big _ _ _ _ _ c.loop-k.invariant turn.within _ (c.from-b.ensures ∙ turn.byte) _ c.is_digit.ensures c.if-not-is_digit.false-raw c.in_err-value.ensures)
 
 pub loop-k-preserved : goal.loop-k-preserved
-unfolding digit
 loop-k-preserved c =
-    let h = tail_within _ _ _ c.requires c.loop-k-test.true in
-    let byte = tail-byte _ _ _ c.requires c.loop-k-test.true in
-    let fits = rw c.from.ensures at c.in_ok-value.ensures in (
-      omega (arith, c.loop-k.invariant.0, c.if-k-eq-MAX_DIGITS.false),
-      rest-turn _ _ _ _ c.loop-k.invariant.1 h _ byte _ c.is_ascii_digit.ensures.value c.if-not-is_ascii_digit.false-raw
-          (omega (arith, c.loop-k.invariant.0, c.if-k-eq-MAX_DIGITS.false)) fits.0 fits.1,
-    )
+    let turn = taken-turn c.take.result.n _ _ c.requires _ (search rules) (search rules) (search rules) _ _ c.loop-k.yielded_by _ _ c.next.ensures.steps _ c.in-Some.is in
+    rw (length-append c.loop-k.yielded)
+    (rest-turn _ _ _ _ c.loop-k.invariant turn.within _ (c.from-b.ensures ∙ turn.byte) _ c.is_digit.ensures c.if-not-is_digit.false-raw (omega (arith, turn.few, c.take.ensures.count)) c.in_ok-value.ensures.0 c.in_ok-value.ensures.1)
+
+pub returns-then-not-ends_at : goal.returns-then-not-ends_at
+returns-then-not-ends_at c =
+    let end = taken-end c.take.result.n _ _ c.requires _ (search rules) (search rules) (search rules) _ _ c.loop-k.yielded_by _ _ c.next.ensures.steps c.in-None.is in
+    let place : c.args.from + length c.loop-k.yielded ≡ c.min-next.result = omega (arith, end, c.take.ensures.count, c.min-next.ensures) in
+    rest-long _ _ _ _ _ c.loop-k.invariant _ (rw place c.ends_at.ensures) c.if-not-ends_at.true-raw (λ l. omega (arith, c.take.ensures.count, place))
 
 pub returns : goal.returns
-returns c = rest-past _ _ _ _ _ c.loop-k.invariant.1 (omega (arith, c.loop-k-test.false, tail-size c.args.text.now c.args.from c.requires))
+returns c =
+    let end = taken-end c.take.result.n _ _ c.requires _ (search rules) (search rules) (search rules) _ _ c.loop-k.yielded_by _ _ c.next.ensures.steps c.in-None.is in
+    let place : c.args.from + length c.loop-k.yielded ≡ c.min-next.result = omega (arith, end, c.take.ensures.count, c.min-next.ensures) in
+    rw (← place) (rest-ended _ _ _ _ _ c.loop-k.invariant _ (rw place c.ends_at.ensures) c.if-not-ends_at.false-raw)
