@@ -14,7 +14,7 @@ use step_rows::Step;
 use step_signals::SignalRule;
 use step_sums::{StepRows, SumRule};
 
-// A rule that a step keeps, by its family.
+// A rule that a step keeps, by its family. By `match` and not by a trait: each family is asked of other things, a signal and its phases, a step, or a step with its rows.
 #[derive(Clone, Copy)]
 enum Rule {
     Signal(SignalRule),
@@ -99,7 +99,8 @@ fn form_row_for(rule: Rule, step: &Step, previous: &[u32], row: &mut [u32])
     }
 }
 
-// The first rule that the step breaks, by the rules in their order, each over rising items; it names the plan's line of the step.
+// The first rule that the step breaks, by the rules in their order, each over rising items; it names the plan's line of the step. By nested loops that a label leaves
+// at the first break, as the paper has it for rules 10 to 18.
 fn first_break(step: &Step, previous: &[u32], row: &mut [u32]) -> Result<(), Refusal>
     requires { JudgeAsked step.now previous.now row.old }
     ensures { Judged step.now previous.now row.old result row.new }

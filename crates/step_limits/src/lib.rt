@@ -17,7 +17,8 @@ pub enum LimitRule {
     OpenLink,
 }
 
-// A volume is at most what a rate lets through in so many seconds: both are small enough for 32 bits.
+// A volume is at most what a rate lets through in so many seconds: both are small enough for 32 bits. That a step has at most 60 is asked here as in step_signals, whose
+// line at the tests of rules 11 to 14 says why.
 fn within_rate(volume: u32, rate: u32, seconds: u32) -> bool
     requires { (rate ≤ 10000) × (seconds ≤ 60) }
     ensures { result ≡ leb volume (rate * seconds) }

@@ -18,7 +18,8 @@ use network_tables::{Counts, Link, Movement, admitted, entered, left, let_out, m
 use step_past::Arrival;
 
 // What a step of a plan is judged by; all tables are lent. `plan_line` has the numbers of its `P` line, `step_line` those of its `S` line, with who waits in each
-// link's demand; `phases` are those that it shows, `asked` those that trams ask; the ledger has the rows up to `boundary`, at which the step begins.
+// link's demand; `phases` are those that it shows, `asked` those that trams ask; the ledger has the rows up to `boundary`, at which the step begins. Links and movements
+// are whole, with the counts beside them, as in `NetworkTables`.
 #[derive(Clone, Copy)]
 pub struct Step<'a> {
     pub counts: Counts,

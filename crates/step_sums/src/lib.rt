@@ -26,6 +26,8 @@ pub enum SumRule {
 }
 
 impl StepRows<'_> {
+    // Each test below asks that its item is one of the step's, as those of `step_limits` do, and for their reason.
+
     // The sum of all movements from link i: what has left it in the step, without what was let out.
     fn moved_from(&self, i: usize) -> u32
         requires { i < self.now.step.now.counts.links }
