@@ -6,7 +6,8 @@ use std::fmt::Display;
 // How many answers a call's cases are counted by: accepted, and each refusal's number.
 const ANSWERS: usize = 36;
 
-// The counts: for each call, the cases that agreed, by answer; then these two.
+// The counts: for each call, the cases that agreed, by answer; then these two. A flat table: `files::run_file` counts at one place for every program, so that
+// rows would only be joined for it.
 pub const DIFFERENT: usize = CALLS.len() * ANSWERS;
 
 pub const PASSED_OVER: usize = DIFFERENT + 1;
