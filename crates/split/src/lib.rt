@@ -93,7 +93,7 @@ fn judge_halves(whole: &Whole, halves: &Halves) -> Result<(), Refusal>
         0,
         0,
     )?;
-    split_checks::plan_form(whole.plan, whole.signals, whole.tables.reading.counts)
+    split_checks::plan_form(whole)
 }
 
 // Splits a network that has passed: the checks on its halves and on the plan, then the texts.
@@ -106,7 +106,7 @@ fn split_loaded(
     ensures lent { SameLent buffers.old buffers.new }
     ensures got { SplitGot whole.now.tables.text.now whole.now.plan.now first_half (held_in buffers.old) (held_in buffers.new) result }
 {
-    let mut halves = Halves::EMPTY;
+    let mut halves = Halves::default();
     split_tables::number_halves(first_half, &whole.tables, &mut halves);
     judge_halves(whole, &halves)?;
     write_halves(whole, &halves, buffers)

@@ -2,7 +2,7 @@
 #![tactic(auto)]
 
 ghost use Rattle.std.specs.Prelude.{◌≡◌, ℕ, ◌/◌, ◌^◌, ◌≤◌, ◌<◌, Bool, length};
-ghost use Rattle.model.specs.Network.{max_links, max_movements};
+ghost use Rattle.model.specs.Network.{max_links, max_signals, max_movements};
 ghost use Rattle.model_split.specs.Call.{in_set};
 ghost use Rattle.model_split.specs.Numbering.{rank};
 ghost use Rattle.split_tables.specs.Tables.{is_in, is_inside, is_border, LinksNamed};
@@ -23,37 +23,19 @@ pub struct Whole<'p, 't, 's> {
 
 // One half: the new number of each link, signal and movement of the whole network. 0 stands for what is not in the half: an `Option<u32>` takes 8 bytes, and with
 // tables twice as large the call that splits took 8,536 bytes of stack, above its 8 KiB.
-#[derive(Clone, Copy)]
+#[derive(Clone, Copy, Default)]
 pub struct HalfTables {
     pub links: [u32; MAX_LINKS],
     pub signals: [u32; MAX_SIGNALS],
     pub movements: [u32; MAX_MOVEMENTS],
 }
 
-impl HalfTables {
-    // A half that has nothing.
-    pub const EMPTY: HalfTables = HalfTables {
-        links: [0; MAX_LINKS],
-        signals: [0; MAX_SIGNALS],
-        movements: [0; MAX_MOVEMENTS],
-    };
-}
-
 // Both halves, and what is left of the set of the first half's links above the last link.
-#[derive(Clone, Copy)]
+#[derive(Clone, Copy, Default)]
 pub struct Halves {
     pub first: HalfTables,
     pub second: HalfTables,
     pub above: u32,
-}
-
-impl Halves {
-    // What `number_halves` fills.
-    pub const EMPTY: Halves = Halves {
-        first: HalfTables::EMPTY,
-        second: HalfTables::EMPTY,
-        above: 0,
-    };
 }
 
 // Whether a movement is inside the half: both its links have a number there. That it names links is no fact of its type, since it is read before it is judged.
@@ -131,14 +113,14 @@ fn in_set(set: u32, i: usize) -> bool
 
 // Whether a link that is not in a set has signal `r`.
 fn outside_has(set: u32, links: &[Link], r: usize) -> bool
-    requires { (length links.now ≤ max_links) × (r < max_links) }
+    requires { (length links.now ≤ max_links) × (r < max_signals) }
     ensures { result ≡ outside_has set links.now r }
 {
     links.iter().enumerate().any(|(i, link)| !in_set(set, i) & (link.signal as usize == r + 1))
 }
 
 // Numbers both halves of a network by the set of links in the first. A signal with a link in the second half goes there.
-// Not inlined, and filled where it is lent: `split` takes 7,672 bytes of stack so, of its 8 KiB. It took 9,320 when the halves were returned, with tables of marks.
+// Not inlined, and filled where it is lent: `split` takes 7,672 bytes of stack so, of its 8 KiB.
 #[inline(never)]
 pub fn number_halves(set: u32, tables: &NetworkTables, halves: &mut Halves)
     requires { HalvesAsked tables.now }

@@ -1,16 +1,26 @@
 -- `split_checks::parts_signals` meets its contract.
-use Rattle.std.proofs.Common.{refl, ◌∙◌, arith, rules, tests}
-use Rattle.std.proofs.lemmas.Iterator.{YieldsList-from_range}
+use Rattle.std.proofs.Common.{◌∙◌, rules, tests, take}
+use Rattle.std.proofs.lemmas.Iterator.{YieldsList-from_slice, YieldsList-from_zip}
+use Rattle.std.proofs.lemmas.Iterator.Adapters.{serves_from_places}
 use Rattle.std.proofs.lemmas.Iterator.Search.{all_from_yields_List}
-use Rattle.network_tables.proofs.Every.{all-every}
-use Rattle.split_checks.specs.Tables.{own_signal_in}
-use Rattle.split_checks.proofs.Signals.{parts-told}
+use Rattle.split_checks.specs.Tables.{own_signal_by}
+use Rattle.split_checks.proofs.Signals.{numbered-signal, numbered-own, parts-told}
 use Rattle.split_checks.proofs.parts_signals.Goals as goal
+
+pub all-requires-clause-callable : goal.all-requires-clause-callable
+all-requires-clause-callable c =
+    let tables = c.args.tables.now in
+    let half = c.args.half.now in
+    let n = tables.reading.counts.links in
+    serves_from_places (YieldsList-from_zip (YieldsList-from_slice (take n tables.links.now) (search rules)) (YieldsList-from_slice half.links (search rules))) (λ x q k. search rules)
+    (λ x k l e. let few = numbered-signal tables.links.now half n (search rules) (search rules) c.requires k _ l e in search rules)
 
 pub returns : goal.returns
 returns c =
-    let a = c.args in
-    let n = a.tables.now.reading.counts.links in
-    let own = own_signal_in a.tables.now.links.now a.half.now in
-    parts-told a.tables.now a.half.now
-    (all_from_yields_List own _ _ _ c.all.ensures.ran (YieldsList-from_range 0 n n refl (omega arith)) (λ i b q k. search (rules, tests)) ∙ all-every n own)
+    let tables = c.args.tables.now in
+    let half = c.args.half.now in
+    let n = tables.reading.counts.links in
+    parts-told tables half
+    (all_from_yields_List (λ item. own_signal_by half item.1 item.0.signal) c.all.new.self _ c.all.result c.all.ensures.ran
+    (YieldsList-from_zip (YieldsList-from_slice (take n tables.links.now) (search rules)) (YieldsList-from_slice half.links (search rules))) (λ x b q k. search (rules, tests))
+    ∙ numbered-own tables.links.now half n (search rules) (search rules))
