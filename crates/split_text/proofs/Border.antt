@@ -1,16 +1,18 @@
 -- The numbers of border movements, added up one after another.
-use Rattle.base_laws.proofs.Kit.{ℕ, suc, ◌+◌, ◌*◌, ◌-◌, ◌≤◌, ◌<◌, ◌≡◌, refl, ap₂, ◌∙◌, Bool, true, false, List, ℕ_discrete, add-one, arith, eq-eqb, ne_eqb, eqb, length, length-set, get_or, replicate, length-replicate, get_or-replicate, get_or-set_same, get_or-set_other}
+use Rattle.base_laws.proofs.Kit.{ℕ, suc, ◌+◌, ◌*◌, ◌-◌, ◌≤◌, ◌<◌, ◌≡◌, refl, ap, ap₂, ◌∙◌, Bool, true, false, List, ℕ_discrete, add-one, arith, eq-eqb, ne_eqb, eqb, length, length-set, get_or, replicate, length-replicate, get_or-replicate, get_or-set_same, get_or-set_other, get_or-take, take, length-take}
+use Rattle.std.proofs.lemmas.List.{get_or_default}
 use Rattle.text_reader.specs.Field.{largest}
 use Rattle.base_laws.specs.Test.{◌and◌}
 use Rattle.base_laws.specs.Sum.{sum, only}
 use Rattle.model.specs.Network.{max_links}
 use Rattle.network_tables.specs.declared.Movement.{Movement}
-use Rattle.network_tables.specs.Fields.{movement_at, link_in}
-use Rattle.split_tables.specs.Tables.{is_border}
+use Rattle.network_tables.specs.Fields.{movement_by, movement_at, link_in}
+use Rattle.split_tables.specs.Tables.{is_border, LinksNamed}
+use Rattle.split_tables.proofs.Ends.{ends-named}
 use Rattle.split_tables.proofs.Items.{zeros-at}
 use Rattle.split_text.specs.declared.Side.{Side}
 use Rattle.split_text.specs.declared.Side.TheVariants.{From, To}
-use Rattle.split_text.specs.Border.{side_number, end_on, added_at, border_sum, BorderAsked}
+use Rattle.split_text.specs.Border.{side_number, end_on, added_at, border_sum, BorderAsked, Bordered}
 use Rattle.split_tables.specs.Items.{Gives}
 
 -- ---- `add_at`
@@ -41,6 +43,10 @@ module _ (link number : ℕ) (sums : List ℕ) where
   added-size true = length-set sums (link - 1) (get_or sums (link - 1) 0 + number)
   added-size false = refl
 
+-- ---- the movements in front of a table
+pub movement-here : (movements : List Movement) (n j : ℕ) (none : Movement) → j < length (take n movements) → get_or (take n movements) j none ≡ movement_at movements j
+movement-here movements n j none h = get_or_default (take n movements) j none (movement_by (λ k. 0)) h ∙ get_or-take n movements j (movement_by (λ k. 0)) (omega (arith, length-take n movements))
+
 -- ---- `add_border`: the first j movements
 side-small : (side : Side) → side_number side < 2
 side-small From = omega arith
@@ -49,6 +55,10 @@ side-small To = omega arith
 end-is : (movements : List Movement) (j : ℕ) (side : Side) → end_on side (movement_at movements j) ≡ link_in movements (side_number side) j
 end-is movements j From = refl
 end-is movements j To = refl
+
+pub border-ends : {movements : List Movement} {count : ℕ} → BorderAsked movements count → (j : ℕ) (none : Movement) → j < length (take count movements)
+    → LinksNamed (get_or (take count movements) j none)
+border-ends {movements} {count} a j none h = rw (movement-here movements count j none h) (ends-named a (omega (arith, h, length-take count movements)))
 
 pub record BorderTo (movements : List Movement) (numbers : List ℕ) (count : ℕ) (side : Side) (post : ℕ → ℕ → Type 0) (sums : List ℕ) (j : ℕ) : Type 0 where
   pub size : length sums ≡ max_links
@@ -65,23 +75,37 @@ module _ {movements : List Movement} {count : ℕ} (a : BorderAsked movements co
         are = λ f g i. zeros-at max_links i;
       }
 
-  module _ {sums : List ℕ} {j : ℕ} (t : BorderTo movements numbers count side post sums j) (h : j < count) {link : ℕ} (e : link ≡ end_on side (movement_at movements j)) where
-    named : link ≡ link_in movements (side_number side) j
-    named = e ∙ end-is movements j side
+  module _ {j : ℕ} (h : j < length (take count movements)) (none : Movement) where
+    within : j < count
+    within = omega (arith, h, length-take count movements)
 
-    pub border-room : (1 ≤ link) × (link ≤ length sums) × (get_or sums (link - 1) 0 ≤ 1_000_000_000_000)
-    border-room =
-        let l = a.links j (side_number side) h (side-small side) in
-        let u : link - 1 < max_links = omega (arith, named, l) in
-        (omega (arith, named, l), omega (arith, named, l, t.size), omega (arith, t.small (link - 1) u, a.few))
+    here : get_or (take count movements) j none ≡ movement_at movements j
+    here = movement-here movements count j none h
 
-    pub border-next : {border : Bool} {number : ℕ} → border ≡ is_border (movement_at movements j) numbers → number < 4294967296 → post j number → {new : List ℕ} → new ≡ added_at border link number sums
-        → BorderTo movements numbers count side post new (j + 1)
-    unfolding border_sum sum part
-    border-next {border} {number} c few p w =
-        let r = border-room in
-        rw w (record {
-          size = added-size link number sums border ∙ t.size;
-          small = λ i l. omega (arith, added-is link number sums border r.0 r.1 i, part_small link number sums border i few, t.small i l);
-          are = λ f g i. rw (add-one j) (added-is link number sums border r.0 r.1 i ∙ ap₂ (λ x y. x + y) (t.are f g i) (rw (c, named, g j number h p) refl));
-        })
+    module _ {sums : List ℕ} (t : BorderTo movements numbers count side post sums j) {link : ℕ} (e : link ≡ end_on side (get_or (take count movements) j none)) where
+      named : link ≡ link_in movements (side_number side) j
+      named = e ∙ ap (end_on side) here ∙ end-is movements j side
+
+      pub border-room : (1 ≤ link) × (link ≤ length sums) × (get_or sums (link - 1) 0 ≤ 1_000_000_000_000)
+      border-room =
+          let l = a.links j (side_number side) within (side-small side) in
+          let u : link - 1 < max_links = omega (arith, named, l) in
+          (omega (arith, named, l), omega (arith, named, l, t.size), omega (arith, t.small (link - 1) u, a.few, within))
+
+      pub border-next : {border : Bool} {number : ℕ} → border ≡ is_border (get_or (take count movements) j none) numbers → number < 4294967296 → post j number → {new : List ℕ}
+          → new ≡ added_at border link number sums → BorderTo movements numbers count side post new (j + 1)
+      unfolding border_sum sum part
+      border-next {border} {number} c few p w =
+          let r = border-room in
+          rw w (record {
+            size = added-size link number sums border ∙ t.size;
+            small = λ i l. omega (arith, added-is link number sums border r.0 r.1 i, part_small link number sums border i few, t.small i l);
+            are = λ f g i. rw (add-one j) (added-is link number sums border r.0 r.1 i ∙ ap₂ (λ x y. x + y) (t.are f g i) (rw (c, here, named, g j number within p) refl));
+          })
+
+  -- all movements
+  pub border-all : {sums : List ℕ} {j : ℕ} → BorderTo movements numbers count side post sums j → length (take count movements) ≡ j → (f : ℕ → ℕ) → Gives post count f
+      → Bordered movements numbers count (side_number side) f sums
+  border-all t e f g =
+      let all : count ≡ length (take count movements) = omega (arith, length-take count movements, a.few, a.size) in
+      record { are = rw (all ∙ e) (t.are f g) }

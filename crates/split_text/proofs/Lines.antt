@@ -4,6 +4,7 @@ use Rattle.std.proofs.lemmas.List.{get_or_default}
 use Rattle.text_reader.specs.Lines.{Line}
 use Rattle.text_writer.specs.Records.{record_text}
 use Rattle.base_laws.specs.Indexed.{list}
+use Rattle.model.specs.declared.Signal.{Signal}
 use Rattle.model.specs.Signals.{signal_row as row_of}
 use Rattle.model.specs.Network.{max_links, max_signals, max_movements, entry, signal_line, signal}
 use Rattle.model.specs.Table.{letter_n, letter_t, letter_g, letter_q, letter_m}
@@ -13,7 +14,7 @@ use Rattle.network_tables.specs.declared.Movement.{Movement}
 use Rattle.network_tables.specs.declared.Tram.{Tram}
 use Rattle.network_tables.specs.declared.NetworkTables.{NetworkTables}
 use Rattle.network_tables.specs.Fields as fields
-use Rattle.network_tables.specs.Fields.{tram_by, tram_at, signal_at, link_by, link_at, movement_by, movement_at}
+use Rattle.network_tables.specs.Fields.{tram_by, tram_at, signal_at, link_by, link_at, movement_at}
 use Rattle.network_writer.specs.declared.Output.{Output}
 use Rattle.network_writer.specs.Put.{Put}
 use Rattle.network_writer.specs.Texts.{line_texts, rows_to, RowIs}
@@ -26,10 +27,10 @@ use Rattle.split_tables.specs.declared.Whole.{Whole}
 use Rattle.split_tables.specs.declared.HalfTables.{HalfTables}
 use Rattle.split_tables.specs.Whole.{whole_network}
 use Rattle.split_tables.specs.Tables.{is_in, LinksNamed}
-use Rattle.split_tables.proofs.Ends.{ends-named}
 use Rattle.split_tables.proofs.Items.{counted-front}
 use Rattle.split_text.specs.Rows.{signal_number_in, count_row, tram_kept, tram_in, tram_row, signal_row, link_kept, link_row, movement_kept, movement_row, TramsAsked, SignalsAsked, LinksAsked, MovementsAsked}
 use Rattle.split_text.specs.Filling.{raised}
+use Rattle.split_text.proofs.Border.{movement-here, border-ends}
 use Rattle.split_text.proofs.Picked.{rows-are, picks-one, picks-other}
 use Rattle.std.specs.Prelude.{Option, Some, None, option_to_list}
 
@@ -80,17 +81,29 @@ signal-front network r few =
     (numbers-are (6 + 2 * (signal network r).phases) (entry network (signal_line network r)) (list 22 (entry network (signal_line network r)))
     (omega (arith, few, length-list {A = ℕ} (entry network (signal_line network r)) 22)) (λ k l. list_at 22 (entry network (signal_line network r)) k (omega (arith, few))))
 
-module _ {whole : Whole} {old : Output} (a : SignalsAsked whole old) (half : HalfTables) {r : ℕ} (h : r < whole.tables.reading.counts.signals) {now : Output}
-    (t : Put r (line_texts letter_g (picked r (is_in half.signals) (signal_row (whole_network whole)))) old now) where
-  pub signals-more : get_or half.signals r 0 ≢ 0 → {row : List ℕ} → row ≡ row_of (signal_at whole.signals.now r) → {width : ℕ} → width ≡ 6 + 2 * (signal_at whole.signals.now r).phases → {new : Output}
-      → Put 1 (record_text letter_g (take width row)) now new → Put (r + 1) (line_texts letter_g (picked (r + 1) (is_in half.signals) (signal_row (whole_network whole)))) old new
-  unfolding is_in
-  signals-more some e w p =
-      picks-one letter_g _ _ t (ap not (ne_eqb (get_or half.signals r 0) 0 some)) (rw (e, w, a.holds r h, signal-front (whole_network whole) r (a.few-phases r h)) at p)
+module _ {whole : Whole} {old : Output} (a : SignalsAsked whole old) (half : HalfTables) where
+  abbrev many : ℕ
+  many = whole.tables.reading.counts.signals
 
-  pub signals-same : get_or half.signals r 0 ≡ 0 → Put (r + 1) (line_texts letter_g (picked (r + 1) (is_in half.signals) (signal_row (whole_network whole)))) old now
-  unfolding is_in
-  signals-same none = picks-other letter_g _ _ t (ap not (eq-eqb (get_or half.signals r 0) 0 none))
+  abbrev front : List Signal
+  front = take many whole.signals.now
+
+  module _ {r : ℕ} (h : r < length front) {now : Output} (t : Put r (line_texts letter_g (picked r (is_in half.signals) (signal_row (whole_network whole)))) old now) where
+    signal-here : (none : Signal) → get_or front r none ≡ signal (whole_network whole) r
+    signal-here none =
+        let u : r < many = omega (arith, h, length-take {A = Signal}) in
+        get_or-take many whole.signals.now r none u ∙ get_or_default whole.signals.now r none _ (omega (arith, h, length-take {A = Signal})) ∙ a.holds r u
+
+    pub signals-more : get_or half.signals r 0 ≢ 0 → (none : Signal) → {row : List ℕ} → row ≡ row_of (get_or front r none) → {width : ℕ} → width ≡ 6 + 2 * (get_or front r none).phases → {new : Output}
+        → Put 1 (record_text letter_g (take width row)) now new → Put (r + 1) (line_texts letter_g (picked (r + 1) (is_in half.signals) (signal_row (whole_network whole)))) old new
+    unfolding is_in
+    signals-more some none e w p =
+        picks-one letter_g _ _ t (ap not (ne_eqb (get_or half.signals r 0) 0 some))
+        (rw (e, w, signal-here none, signal-front (whole_network whole) r (a.few-phases r (omega (arith, h, length-take {A = Signal})))) at p)
+
+    pub signals-same : get_or half.signals r 0 ≡ 0 → Put (r + 1) (line_texts letter_g (picked (r + 1) (is_in half.signals) (signal_row (whole_network whole)))) old now
+    unfolding is_in
+    signals-same none = picks-other letter_g _ _ t (ap not (eq-eqb (get_or half.signals r 0) 0 none))
 
 -- ---- the `T` lines
 module _ (trams : List Tram) (half : HalfTables) where
@@ -139,12 +152,9 @@ module _ (movements : List Movement) (half : HalfTables) (n : ℕ) where
   movement-rows j = cond (is_in half.movements j) (movement_row movements half j ∷ []) []
 
   module _ (j : ℕ) (none : Movement) (h : j < length (take n movements)) where
-    pub movement-here : get_or (take n movements) j none ≡ movement_at movements j
-    movement-here = get_or_default (take n movements) j none (movement_by (λ k. 0)) h ∙ get_or-take n movements j (movement_by (λ k. 0)) (omega (arith, length-take n movements))
-
     pub movement-given : (changed : Option Movement) → changed ≡ movement_kept half j (get_or (take n movements) j none) → RowIs (λ movement row. row ≡ fields.movement_row movement) changed (movement-rows j)
     unfolding movement_kept movement_row is_in
-    movement-given changed e = rw (e, movement-here) (row-of fields.movement_row (eqb (get_or half.movements j 0) 0) _ _ refl)
+    movement-given changed e = rw (e, movement-here movements n j none h) (row-of fields.movement_row (eqb (get_or half.movements j 0) 0) _ _ refl)
 
   pub movements-put : n ≤ length movements → {old new : Output} → Put (length (take n movements)) (line_texts letter_m (rows_to (length (take n movements)) movement-rows)) old new
       → Put n (line_texts letter_m (picked n (is_in half.movements) (movement_row movements half))) old new
@@ -164,5 +174,4 @@ module _ {tables : NetworkTables} {output : Output} where
   pub movement-ends : MovementsAsked tables output → (j : ℕ) (none : Movement) → j < length (take tables.reading.counts.movements tables.movements.now)
       → (j < max_movements) × LinksNamed (get_or (take tables.reading.counts.movements tables.movements.now) j none)
   movement-ends a j none h =
-      let l : j < tables.reading.counts.movements = omega (arith, length-take tables.reading.counts.movements tables.movements.now) in
-      (omega (arith, l, tables.sized.few.movements), rw (movement-here tables.movements.now (record { links = []; signals = []; movements = [] }) tables.reading.counts.movements j none h) (ends-named a.table-asked l))
+      (omega (arith, h, length-take tables.reading.counts.movements tables.movements.now, tables.sized.few.movements), border-ends a.table-asked j none h)

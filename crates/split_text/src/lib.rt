@@ -78,16 +78,16 @@ fn put_trams(trams: &[Tram], half: &HalfTables, output: &mut Output)
     output.put_rows(b'T', trams, |_, tram| tram_kept(tram, half));
 }
 
-// Puts the `G` lines of the half's signals as they are. By index, as their numbers in the half are. The two lines of a turn stand in carry too: a method of
-// `Output` would say the signal's phases and numbers in a contract longer than they are.
+// Puts the `G` lines of the half's signals as they are. The two lines of a turn stand in carry too: a method of `Output` would say the signal's phases and
+// numbers in a contract longer than they are.
 fn put_signals(whole: &Whole, half: &HalfTables, output: &mut Output)
     requires { SignalsAsked whole.now output.old }
     ensures { Put whole.now.tables.reading.counts.signals (line_texts letter_g (picked whole.now.tables.reading.counts.signals (is_in half.now.signals) (signal_row (whole_network whole.now)))) output.old output.new }
 {
-    for r in 0..whole.tables.reading.counts.signals {
+    let signals = &whole.signals[..whole.tables.reading.counts.signals];
+    for (r, signal) in signals.iter().enumerate() {
         if half.signals[r] != 0 {
-            let signal = whole.signals[r];
-            let row = <[u32; SIGNAL_FIELDS]>::from(&signal);
+            let row = <[u32; SIGNAL_FIELDS]>::from(signal);
             output.put_line(b'G', &row[..signal.width()]);
         }
     }
@@ -188,7 +188,7 @@ fn end_of(movement: Movement, side: Side) -> u32
     }
 }
 
-// Adds up, for each link, the numbers of the border movements that have it on a side. By index, as `number_of` is asked.
+// Adds up, for each link, the numbers of the border movements that have it on a side.
 fn add_border<F: Fn(usize) -> u32>(
     tables: &NetworkTables,
     half: &HalfTables,
@@ -200,9 +200,9 @@ fn add_border<F: Fn(usize) -> u32>(
     ensures { (f : ℕ → ℕ) → Gives (F.post number_of) tables.now.reading.counts.movements f
         → Bordered tables.now.movements.now half.now.links tables.now.reading.counts.movements (side_number side) f result }
 {
+    let movements = &tables.movements[..tables.reading.counts.movements];
     let mut sums = [0; MAX_LINKS];
-    for j in 0..tables.reading.counts.movements {
-        let movement = tables.movements[j];
+    for (j, &movement) in movements.iter().enumerate() {
         let border = split_tables::is_border(movement, &half.links);
         let link = end_of(movement, side) as usize;
         add_at(border, link, number_of(j), &mut sums);

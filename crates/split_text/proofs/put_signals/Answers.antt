@@ -12,6 +12,6 @@ loop-r-preserved c =
     let half = c.args.half.now in
     let t = c.loop-r.invariant in
     elim c.if-half-r-ne0.branch [
-      | then-half-r-ne0 w ↦ rw w.output-is (signals-more c.requires half h t w.if-half-r-ne0.true w.from-row.ensures w.width.ensures w.put_line.ensures)
+      | then-half-r-ne0 w ↦ rw w.output-is (signals-more c.requires half h t w.if-half-r-ne0.true _ w.from-row.ensures w.width.ensures w.put_line.ensures)
       | else-half-r-ne0 w ↦ rw w.output-is (signals-same c.requires half h t w.if-half-r-ne0.false)
     ]
