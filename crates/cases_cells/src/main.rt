@@ -15,9 +15,11 @@ const FORM: Form = Form {
     passed_over: 0,
 };
 
+// What the cases are counted by: accepted, or with one of the numbers of the call; and those that differ.
+const PLACES: [&str; 4] = ["accepted", "36", "37", "different"];
+
 fn main(rt: HostRuntime) {
-    let names = ["accepted", "36", "37", "different"];
-    files::run(&rt, FORM, &names, &mut [0; 4], |file, number| {
+    files::run(&rt, FORM, &PLACES, &mut [0; PLACES.len()], |file, number| {
         compare::run_case(&rt, file, number)
     });
 }

@@ -18,7 +18,7 @@ const ROOM: usize = 8192;
 // What the cases are counted by: written, refused for the network itself, or with one of the numbers of the call; and those that differ.
 pub const PLACES: [&str; 7] = ["written", "network", "9", "40", "41", "42", "different"];
 
-const DIFFERENT: usize = 6;
+const DIFFERENT: usize = PLACES.len() - 1;
 
 // What a case gives: the texts that are split, what is stored of the answer, and what of the buffers.
 #[derive(Clone, Copy)]

@@ -6,6 +6,7 @@
 mod compare;
 mod told;
 
+use crate::compare::PLACES;
 use cases_files::files;
 use cases_files::files::Form;
 
@@ -16,7 +17,7 @@ const FORM: Form = Form {
 };
 
 fn main(rt: HostRuntime) {
-    files::run(&rt, FORM, &compare::PLACES, &mut [0; 7], |file, number| {
+    files::run(&rt, FORM, &PLACES, &mut [0; PLACES.len()], |file, number| {
         compare::run_case(&rt, file, number)
     });
 }

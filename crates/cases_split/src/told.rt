@@ -24,8 +24,8 @@ pub struct Stored {
     pub answer: Result<Lengths, Refusal>,
 }
 
-// The four buffers that a split leaves, or what was stored of them, a room for each. Beside `Lengths`, which is plain numbers: a struct for both would have a
-// type parameter for four names, and the theorem of the call would speak of it.
+// The four buffers that a split leaves, or what was stored of them, a room for each. Not one `Four<T>` with `Lengths`: `Four<&[u8]>` and `Four<usize>` would stand
+// where names tell them apart.
 #[derive(Clone, Copy)]
 pub struct Buffers<'a> {
     pub network_1: &'a [u8],

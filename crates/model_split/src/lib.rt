@@ -2,7 +2,7 @@
 // lengths of the four texts.
 #![tactic(auto)]
 
-// The lengths of the four texts: the network and the plan of the first half, then of the second.
+// The lengths of the four texts: the network and the plan of the first half, then of the second. Not a `Four<usize>`: the answer of `split` says what they are.
 #[derive(Clone, Copy, PartialEq, Eq)]
 pub struct Lengths {
     pub network_1: usize,

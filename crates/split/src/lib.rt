@@ -13,7 +13,7 @@ use network::Room;
 use network_tables::MAX_SIGNALS;
 use split_tables::{Halves, Whole};
 
-// The buffers of the four texts, lent together. Beside `Lengths`, which is plain numbers: a struct for both would have a type parameter for four names.
+// The buffers of the four texts, lent together. Not one `Four<T>` with `Lengths`: `Four<&mut [u8]>` and `Four<usize>` would stand where names tell them apart.
 #[derive(Drop)]
 struct FourBuffers<'a> {
     network_1: &'a mut [u8],
