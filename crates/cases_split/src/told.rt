@@ -24,8 +24,8 @@ pub struct Stored {
     pub answer: Result<Lengths, Refusal>,
 }
 
-// The four buffers that a split leaves, or what was stored of them, a room for each. Not one `Four<T>` with `Lengths`: `Four<&[u8]>` and `Four<usize>` would stand
-// where names tell them apart.
+// The four buffers that a split leaves, or what was stored of them, a room for each. Not one `Four<T>` with `Lengths`: `Four<&[u8]>` and `Four<usize>` would
+// stand where names tell them apart.
 #[derive(Clone, Copy)]
 pub struct Buffers<'a> {
     pub network_1: &'a [u8],

@@ -14,7 +14,7 @@ use Rattle.network_tables.specs.declared.Movement.{Movement}
 use Rattle.network_tables.specs.declared.Tram.{Tram}
 use Rattle.network_tables.specs.declared.NetworkTables.{NetworkTables}
 use Rattle.network_tables.specs.Fields as fields
-use Rattle.network_tables.specs.Fields.{tram_by, tram_at, signal_at, link_by, link_at, movement_at}
+use Rattle.network_tables.specs.Fields.{tram_by, tram_at, link_by, link_at}
 use Rattle.network_writer.specs.declared.Output.{Output}
 use Rattle.network_writer.specs.Put.{Put}
 use Rattle.network_writer.specs.Texts.{line_texts, rows_to, RowIs}
