@@ -184,7 +184,7 @@ impl From<Result<usize, Refusal>> for TextResult {
 
 // The answer of a run of cells; number 0: so many cells, these totals, and the volumes after the last step, 0 past the cells.
 #[repr(C)]
-#[derive(Clone, Copy)]
+#[derive(Clone, Copy, Default)]
 pub struct CellsResult {
     pub number: u32,
     pub line: u32,
@@ -199,28 +199,23 @@ impl From<Result<CellsRun, Refusal>> for CellsResult {
     ghost from_gives = { λ answer told. told ≡ cells_result answer (volumes_in answer) };
 
     fn from(answer: Result<CellsRun, Refusal>) -> CellsResult {
-        // Not by `..CellsResult::default()`: an array that is taken straight out of another struct gets no proof.
         match answer {
             Ok(run) => {
                 let volumes = run.volumes;
                 CellsResult {
-                    number: 0,
-                    line: 0,
-                    item: 0,
                     cells: run.cells,
                     flow_in: run.flow_in,
                     flow_out: run.flow_out,
                     volumes,
+                    ..CellsResult::default()
                 }
             }
             Err(r) => CellsResult {
                 number: r.number,
                 line: r.line,
                 item: r.item,
-                cells: 0,
-                flow_in: 0,
-                flow_out: 0,
                 volumes: [0; MAX_CELLS],
+                ..CellsResult::default()
             },
         }
     }
