@@ -40,7 +40,7 @@ impl Place {
 }
 
 // The state at a boundary: the place of the next step's lines, the totals so far, and how many wait outside.
-// The signals stand in a table that is lent, since a copy of them a step costs more than the rest of the step's state.
+// The signals stand in a table that is lent and stepped in place, as the paper has its lights: in the state, each step would copy eight of 88 bytes.
 #[derive(Clone, Copy)]
 pub struct State {
     pub place: Place,
@@ -49,7 +49,7 @@ pub struct State {
 }
 
 // What the lines of a step say: the numbers of its `S` line and of its `P` line, the phases that are shown, and those that trams ask. While a plan is judged, those
-// who wait are added to each demand. It is lent from step to step, so that it need not be cleared anew.
+// who wait are added to each demand. `take_steps` lends one from step to step, so that it need not be cleared anew; a sheet's check makes one for each step.
 #[derive(Drop)]
 pub struct Lines {
     pub step: [u32; STEP_SIZE],
@@ -80,7 +80,7 @@ pub struct Run<'a> {
     pub trams: &'a [Tram],
 }
 
-// Length × (vehicles under way at the step's start + at its end).
+// Length × (vehicles under way at the step's start + at its end). The bound of 60 seconds is asked as in step_signals.
 fn travel_time(seconds: u32, start: u64, end: u64) -> u64
     requires { (seconds ≤ 60) × (start ≤ 192220015080) × (end ≤ 192220015080) }
     ensures { (result ≡ seconds * (start + end)) × (result ≤ 23066401809600) }
@@ -168,7 +168,7 @@ fn next_state(
 }
 
 // Reads the numbers of a step's `P` line. An empty text means hold: each signal keeps its phase, and every volume is 0, as `line` has it.
-// The counts stand beside the signals, since they have the width of the line too.
+// Signals and counts stay two parameters here and in `next_state`: the table is whole, and the counts say how many of it there are and how wide the line is.
 pub fn read_line(
     plan: &[u8],
     at: usize,
