@@ -1,5 +1,5 @@
 -- The laws of writing an answer: `A` and the `B` records behind it, or `R`.
-use Rattle.base_laws.proofs.Kit.{ℕ, suc, ◌≤◌, ◌≡◌, List, [], ◌∷◌, ◌++◌, arith, length, get_or}
+use Rattle.base_laws.proofs.Kit.{ℕ, suc, ◌≤◌, ◌≡◌, List, [], ◌∷◌, ◌++◌, arith, length}
 use Rattle.base_search.specs.declared.Refusal.{Refusal}
 use Rattle.text_writer.specs.Writing.{Wrote}
 use Rattle.text_writer.proofs.Laws.{wrote-more, wrote-length, record-most, records-most}
