@@ -10,7 +10,7 @@ use Rattle.model.specs.Hold.{plan_of}
 use Rattle.model.proofs.Accepted.{ValidNetwork, valid-network}
 use Rattle.model.proofs.Shown.{same-phases}
 use Rattle.network_tables.specs.declared.Counts.{Counts}
-use Rattle.network_tables.specs.Fields.{signal_at}
+use Rattle.network_tables.specs.Fields.{step_size, line_size, signal_at}
 use Rattle.network_tables.specs.Rows.{ReadAgain}
 use Rattle.network_tables.specs.Tables.{CountsHold, StepNumbers, PlanNumbers}
 use Rattle.network_tables.proofs.Rows.{again_joined}
@@ -28,6 +28,7 @@ use Rattle.plan_steps.proofs.PlanLines.{shown-at, line-bad, line-numbers, line-g
 use Rattle.network_trams.proofs.Ready.{tram-form}
 use Rattle.plan_steps.proofs.Steps.{step-form, asked_by}
 use Rattle.std.specs.Prelude.{Option, Some, None}
+use Rattle.std.specs.Array.{AllOfLen}
 
 module _ {run : Run} {place : Place} {signals : List Signal} {lent : Lines} (asked : ReadAsked run place signals lent) where
   abbrev network_text : List ℕ
@@ -135,12 +136,19 @@ module _ {run : Run} {place : Place} {signals : List Signal} {lent : Lines} (ask
               };
             }
 
--- a table of zeros has no other number, at any place
-pub zero-at : (n k : ℕ) → ◌≡◌ {A = ℕ} (get_or (replicate n 0) k 0) 0
-zero-at n k = elim (dec_lt k n) [
-  | yes h ↦ get_or-replicate {A = ℕ} n k 0 0 h
-  | no h ↦ List·getD-eq-default (replicate n 0) 0 (omega (arith, length-replicate {A = ℕ} n 0))
-]
+-- what says nothing has no number, at any place
+pub cleared-default : {said : Lines} {P : ℕ → Type 0} → ((x : ℕ) → P x → x ≡ 0) → AllOfLen P said.step step_size → AllOfLen P said.plan line_size
+    → AllOfLen P said.phases max_signals → Cleared said
+cleared-default {said} zero step plan phases =
+    record {
+      step-size = step.long;
+      plan-size = plan.long;
+      phases-size = phases.long;
+      no-number = λ k. elim (dec_lt k line_size) [
+        | yes h ↦ zero _ (plan.at k 0 h)
+        | no h ↦ List·getD-eq-default said.plan 0 (omega (arith, plan.long))
+      ];
+    }
 
 -- tables without a number may be lent, whatever the plan's text
 pub cleared-lent : {network_text plan_text : List ℕ} {said : Lines} → Cleared said → LinesLent network_text plan_text said

@@ -5,7 +5,7 @@ ghost use Rattle.std.specs.Prelude.{◌≡◌, ◌+◌, ◌*◌, ◌≤◌};
 ghost use Rattle.model.specs.Network.{max_steps};
 ghost use Rattle.plan_steps.specs.PlanLine.{LineAsked, LineGot};
 ghost use Rattle.plan_steps.specs.Totals.{totals_after, TotalsAsked};
-ghost use Rattle.plan_steps.specs.Reading.{Cleared, ReadAsked, ReadGot};
+ghost use Rattle.plan_steps.specs.Reading.{ReadAsked, ReadGot};
 ghost use Rattle.plan_steps.specs.State.{first_place, FirstAsked, first_state, NextAsked, NextGot, StepAsked, StepGot, finished};
 ghost use Rattle.plan_steps.specs.Steps.{StepsAsked, StepsGot, RunAsked, RunGot};
 
@@ -50,26 +50,12 @@ pub struct State {
 
 // What the lines of a step say: the numbers of its `S` line and of its `P` line, the phases that are shown, and those that trams ask. While a plan is judged, those
 // who wait are added to each demand. `take_steps` lends one from step to step, so that it need not be cleared anew; a sheet's check makes one for each step.
-#[derive(Drop)]
+#[derive(Drop, Default)]
 pub struct Lines {
     pub step: [u32; STEP_SIZE],
     pub plan: [u32; LINE_SIZE],
     pub phases: [u32; MAX_SIGNALS],
     pub asked: [u32; MAX_SIGNALS],
-}
-
-impl Lines {
-    // Before the first step.
-    pub fn cleared() -> Self
-        ensures { Cleared result }
-    {
-        Lines {
-            step: [0; STEP_SIZE],
-            plan: [0; LINE_SIZE],
-            phases: [0; MAX_SIGNALS],
-            asked: [0; MAX_SIGNALS],
-        }
-    }
 }
 
 // What all steps are taken by: the plan's text, the network's tables, and its trams.
@@ -298,7 +284,7 @@ pub fn take_steps(
         tables,
         trams,
     };
-    let mut lines = Lines::cleared();
+    let mut lines = Lines::default();
     for _ in 0..steps {
         state = run.take_step(state, signals, &mut arrivals, waiting, ledger, &mut lines)?;
     }

@@ -129,7 +129,7 @@ fn pass_step(run: &Run, table: &[SheetLine], signals: &mut [Signal], mut pass: P
     ensures { StepGot run.now.tables.now.text.now run.now.plan.now table.now pass result signals.new }
 {
     let count = run.tables.reading.counts.signals;
-    let mut said = Lines::cleared();
+    let mut said = Lines::default();
     let Some(place) = run.read_lines(pass.place, signals, &mut said) else {
         return pass;
     };
