@@ -1,7 +1,7 @@
 -- The `G` lines, put by the program's signals, and the rows of links and movements.
 use Rattle.std.proofs.lemmas.List.{get_or_default}
 use Rattle.std.specs.Prelude.{Option, Some}
-use Rattle.base_laws.proofs.Kit.{ℕ, ◌+◌, ◌*◌, ◌<◌, ◌≡◌, ap, ◌∙◌, List, [], ◌∷◌, arith, length, get_or, get_or-take, length-take, take}
+use Rattle.base_laws.proofs.Kit.{ℕ, ◌+◌, ◌*◌, ◌<◌, ◌≡◌, ap, ◌∙◌, List, [], ◌∷◌, length, get_or, take}
 use Rattle.text_writer.specs.Records.{record_text}
 use Rattle.model.specs.declared.Signal.{Signal}
 use Rattle.model.specs.Signals.{signal_row}
@@ -29,17 +29,17 @@ signals-next {signals} {k = k} asked t h {row} is width put =
     rows_next t h (rw (width, same) at put)
 
 -- ---- what is given for link i, with who waits there, and for movement j is its row
-module _ (links : List Link) (waiting : List ℕ) (n i : ℕ) (none : Link) (h : i < length (take n links)) where
-  pub link-given : (changed : Option Link) → changed ≡ Some (record (get_or (take n links) i none) { waiting = get_or waiting i 0 }) → RowIs (λ link row. row ≡ fields.link_row link) changed (link_row links waiting i ∷ [])
+module _ (links : List Link) (waiting : List ℕ) (i : ℕ) (none : Link) (h : i < length links) where
+  pub link-given : (changed : Option Link) → changed ≡ Some (record (get_or links i none) { waiting = get_or waiting i 0 }) → RowIs (λ link row. row ≡ fields.link_row link) changed (link_row links waiting i ∷ [])
   unfolding link_row
   link-given changed e = rw e (λ row is. ap (λ (r : List ℕ). r ∷ []) (is ∙ ap (λ (link : Link). fields.link_row (record link { waiting = get_or waiting i 0 })) here))
     where
-      here : get_or (take n links) i none ≡ link_at links i
-      here = get_or_default (take n links) i none (link_by (λ k. 0)) h ∙ get_or-take n links i (link_by (λ k. 0)) (omega (arith, length-take n links))
+      here : get_or links i none ≡ link_at links i
+      here = get_or_default links i none (link_by (λ k. 0)) h
 
-module _ (movements : List Movement) (n j : ℕ) (none : Movement) (h : j < length (take n movements)) where
-  pub movement-given : (changed : Option Movement) → changed ≡ Some (get_or (take n movements) j none) → RowIs (λ movement row. row ≡ movement_row movement) changed (movement_row (movement_at movements j) ∷ [])
+module _ (movements : List Movement) (j : ℕ) (none : Movement) (h : j < length movements) where
+  pub movement-given : (changed : Option Movement) → changed ≡ Some (get_or movements j none) → RowIs (λ movement row. row ≡ movement_row movement) changed (movement_row (movement_at movements j) ∷ [])
   movement-given changed e = rw e (λ row is. ap (λ (r : List ℕ). r ∷ []) (is ∙ ap movement_row here))
     where
-      here : get_or (take n movements) j none ≡ movement_at movements j
-      here = get_or_default (take n movements) j none (movement_by (λ k. 0)) h ∙ get_or-take n movements j (movement_by (λ k. 0)) (omega (arith, length-take n movements))
+      here : get_or movements j none ≡ movement_at movements j
+      here = get_or_default movements j none (movement_by (λ k. 0)) h

@@ -190,15 +190,15 @@ module _ {tables : NetworkTables} {st : Standing} (a : CarryAsked tables st) {tr
       signals-ready = signals-asked (omega (arith, start, p₁.ends, p₁.few, p₂.ends, p₂.few, few.trams, few.signals))
 
       module _ {t₃ : List ℕ} {o₃ : Output} (p₃ : Put C.signals t₃ o₂ o₃) where
-        pub links-early : Early (length (take C.links tables.links.now)) o₃
-        links-early = omega (arith, length-take C.links tables.links.now, start, p₁.ends, p₁.few, p₂.ends, p₂.few, p₃.ends, p₃.few, few.trams, few.signals, few.links)
+        pub links-early : Early (length tables.links.now) o₃
+        links-early = omega (arith, tables.sized.link-size, start, p₁.ends, p₁.few, p₂.ends, p₂.few, p₃.ends, p₃.few, few.trams, few.signals, few.links)
 
         module _ {t₄ : List ℕ} {o₄ : Output} (p₄ : Put C.links t₄ o₃ o₄) where
           before-movements : o₄.at ≤ longest * 49
           before-movements = omega (arith, start, p₁.ends, p₁.few, p₂.ends, p₂.few, p₃.ends, p₃.few, p₄.ends, p₄.few, few.trams, few.signals, few.links)
 
-          pub movements-early : Early (length (take C.movements tables.movements.now)) o₄
-          movements-early = omega (arith, length-take C.movements tables.movements.now, before-movements, few.movements)
+          pub movements-early : Early (length tables.movements.now) o₄
+          movements-early = omega (arith, tables.sized.movement-size, before-movements, few.movements)
 
           module _ {t₅ : List ℕ} {o₅ : Output} (p₅ : Put C.movements t₅ o₄ o₅) where
             before-past : o₅.at ≤ longest * 113
@@ -292,18 +292,14 @@ module _ {tables : NetworkTables} {st : Standing} (a : CarryAsked tables st) {tr
       let e = length-take-le C.signals signals (omega (arith, a.signals-size, few.signals)) in
       rw (e, records-same letter_g _ (λ r. signal_numbers (signal_in signals r)) C.signals (λ r l. ap signal_numbers (get_or-take C.signals signals r no_signal l))) at p
 
-  pub links-put : {old new : Output} → Put (length (take C.links tables.links.now)) (line_texts letter_q (rows_to (length (take C.links tables.links.now)) (λ i. link_row tables.links.now waiting i ∷ []))) old new
+  pub links-put : {old new : Output} → Put (length tables.links.now) (line_texts letter_q (rows_to (length tables.links.now) (λ i. link_row tables.links.now waiting i ∷ []))) old new
       → Put C.links (record_texts letter_q C.links (link_row tables.links.now waiting)) old new
-  links-put p =
-      let e = length-take-le C.links tables.links.now (omega (arith, a.loaded.link-table.size, few.links)) in
-      rw (e, each-one letter_q (link_row tables.links.now waiting) C.links) at p
+  links-put p = rw (tables.sized.link-size, each-one letter_q (link_row tables.links.now waiting) C.links) at p
 
   pub movements-put : {old new : Output}
-      → Put (length (take C.movements tables.movements.now)) (line_texts letter_m (rows_to (length (take C.movements tables.movements.now)) (λ j. movement_row (movement_at tables.movements.now j) ∷ []))) old new
+      → Put (length tables.movements.now) (line_texts letter_m (rows_to (length tables.movements.now) (λ j. movement_row (movement_at tables.movements.now j) ∷ []))) old new
       → Put C.movements (record_texts letter_m C.movements (λ j. movement_row (movement_at tables.movements.now j))) old new
-  movements-put p =
-      let e = length-take-le C.movements tables.movements.now (omega (arith, a.loaded.movement-table.size, few.movements)) in
-      rw (e, each-one letter_m (λ j. movement_row (movement_at tables.movements.now j)) C.movements) at p
+  movements-put p = rw (tables.sized.movement-size, each-one letter_m (λ j. movement_row (movement_at tables.movements.now j)) C.movements) at p
 
   -- ---- all blocks, one behind another
   module _ (next : ℕ) {left width rest-width : ℕ} {o₀ o₁ o₂ o₃ o₄ o₅ o₆ o₇ o₈ : Output} (start : o₀.at ≡ 0)

@@ -153,15 +153,13 @@ fn put_network(tables: &NetworkTables, trams: &[Tram], standing: &Standing, out:
     output.put_line(b'N', &count_row(counts, boundary, left));
     output.put_rows(b'T', trams, |_, tram| rest_of(tram, before));
     put_signals(&standing.signals[..counts.signals], &mut output);
-    let links = &tables.links[..counts.links];
-    output.put_rows(b'Q', links, |i, link| {
+    output.put_rows(b'Q', tables.links, |i, link| {
         Some(Link {
             waiting: standing.waiting[i],
             ..link
         })
     });
-    let movements = &tables.movements[..counts.movements];
-    output.put_rows(b'M', movements, |_, movement| Some(movement));
+    output.put_rows(b'M', tables.movements, |_, movement| Some(movement));
     let past = PassedLines {
         at: tables.reading.past_at,
         letter: b'H',

@@ -1,5 +1,5 @@
 -- The stages of a network's reading, one after another: where one is refused, so is the network; and what each asks of those before it.
-use Rattle.base_laws.proofs.Kit.{ℕ, ◌≤◌, ◌≡◌, sym, ◌∙◌, List, arith, length, take, length-take-le}
+use Rattle.base_laws.proofs.Kit.{ℕ, ◌≡◌, sym, ◌∙◌, List, arith, length, take, length-take-le}
 use Rattle.base_search.specs.declared.Refusal.{Refusal}
 use Rattle.base_search.specs.Checks.{Checks, each, ◌then◌, verdict, Verdict}
 use Rattle.base_search.proofs.Laws.{hold-of-passes}
@@ -12,7 +12,7 @@ use Rattle.network_tables.specs.declared.Movement.{Movement}
 use Rattle.network_tables.specs.declared.NetworkTables.{NetworkTables}
 use Rattle.network_tables.specs.declared.Reading.{Reading}
 use Rattle.network_tables.specs.Blocks.{block_checks, link_block, movement_block}
-use Rattle.network_tables.specs.Tables.{Judged}
+use Rattle.network_tables.specs.Tables.{Judged, LinkTable}
 use Rattle.network_tables.proofs.Stages.{verdict-passed, verdict-refused}
 use Rattle.network_signals.specs.Counts.{CountsHeld}
 use Rattle.network_signals.specs.Stages.{SignalsHeld}
@@ -86,11 +86,15 @@ module _ {text : List ℕ} {signals₀ : List Signal} {links₀ : List Link} {mo
               movements-stop e = tables-refused (stop (network_checks (lines text)) _ (from_shares text) left₃ (verdict-refused j₃ e))
 
               module _ {at_shares : Reading} (e₄ : moved ≡ Ok at_shares) where
-                pub movements-cut : (at_shares.counts.movements ≤ length movements) × (at_shares.counts.movements ≡ length (take at_shares.counts.movements movements))
-                movements-cut =
-                    let held = j₃.held _ e₄ in
-                    let room : at_shares.counts.movements ≤ length movements = omega (arith, held.table.size, held.reached.counted.few.movements) in
-                    (room, sym (length-take-le at_shares.counts.movements movements room))
+                pub links-cut : at_shares.counts.links ≡ length (take at_shares.counts.links links)
+                links-cut = sym (length-take-le at_shares.counts.links links (omega (arith, (j₂.held _ e₃).room, (j₃.held _ e₄).reached.counted.few.links)))
+
+                -- the counts are those of the text at both stages
+                link-table : LinkTable (lines text) (take at_shares.counts.links links)
+                link-table = rw ((j₃.held _ e₄).reached.counted.links, ← (j₂.held _ e₃).reached.counted.links) (j₂.held _ e₃).table
+
+                pub movements-cut : at_shares.counts.movements ≡ length (take at_shares.counts.movements movements)
+                movements-cut = sym (length-take-le at_shares.counts.movements movements (omega (arith, (j₃.held _ e₄).room, (j₃.held _ e₄).reached.counted.few.movements)))
 
                 pub shares-ready : SharesAsked (take at_shares.counts.movements movements) at_shares.counts
                 shares-ready = shares-asked (j₃.held _ e₄).reached.counted (j₃.held _ e₄).table
@@ -106,11 +110,11 @@ module _ {text : List ℕ} {signals₀ : List Signal} {links₀ : List Link} {mo
                   shares-stop e = tables-refused (stop (network_checks (lines text)) _ (timeline_checks (lines text)) left₄ (checked ∙ e))
 
                   module _ (e₅ : shared ≡ Ok tt) where
-                    pub timeline-asked : TimelineAsked text at_shares links movements times₀
+                    pub timeline-asked : TimelineAsked text at_shares (take at_shares.counts.links links) (take at_shares.counts.movements movements) times₀
                     timeline-asked =
                         record {
                           reached = (j₃.held _ e₄).reached;
-                          link-table = (j₂.held _ e₃).table;
+                          link-table = link-table;
                           movement-size = (j₃.held _ e₄).table.size;
                           limits = link-limits (lines text) (verdict-passed j₂ e₃);
                           room = room.time-room;
@@ -119,7 +123,7 @@ module _ {text : List ℕ} {signals₀ : List Signal} {links₀ : List Link} {mo
                     left₅ : Left text (timeline_checks (lines text))
                     left₅ = on (network_checks (lines text)) _ (timeline_checks (lines text)) left₄ (checked ∙ e₅)
 
-                    module _ {timed : Result NetworkTables Refusal} (j₅ : TablesJudged (timeline_checks (lines text)) (TimelineHeld text links movements) timed) where
+                    module _ {timed : Result NetworkTables Refusal} (j₅ : TablesJudged (timeline_checks (lines text)) (TimelineHeld text (take at_shares.counts.links links) (take at_shares.counts.movements movements)) timed) where
                       pub network-judged : TablesJudged (network_checks (lines text)) (LoadedFrom text signals) timed
                       network-judged =
                           record {
@@ -139,7 +143,7 @@ module _ {text : List ℕ} {signals₀ : List Signal} {links₀ : List Link} {mo
                                         steps-start = held.steps-start;
                                         signal-table = (j₁.held _ e₂).table;
                                         few-phases = (j₁.held _ e₂).few;
-                                        link-table = (j₂.held _ e₃).table;
+                                        link-table = link-table;
                                         movement-table = (j₃.held _ e₄).table;
                                         time-table = held.time-table;
                                         holds = hold-of-passes (network_checks (lines text)) (left₅ ∙ j₅.passed tables e);

@@ -99,7 +99,10 @@ fn read_tables<'a>(
     let reading = network_links::read_links(text, reading, signals, links)?;
     let reading = network_links::read_movements(text, reading, movements)?;
     let counts = reading.counts;
-    network_links::check_shares(&movements[..counts.movements], counts)?;
+    // From here on each table is as long as the network has links or movements.
+    let links = &links[..counts.links];
+    let movements = &movements[..counts.movements];
+    network_links::check_shares(movements, counts)?;
     read_timeline(text, reading, links, movements, times)
 }
 

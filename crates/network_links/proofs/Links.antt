@@ -113,5 +113,11 @@ module _ {text : List ℕ} {reading : Reading} {signals : List Signal} {links₀
         judged-passed (passed-all table.read.passed (omega arith))
         (record {
           reached = reached-next asked.reached (rw movements-after-links at (block-end table.read (omega arith)));
-          table = record { size = table.room ∙ asked.room; holds = link-is (lines text) links table.rows };
+          room = table.room ∙ asked.room;
+          table = record {
+            size = length-take-le reading.counts.links links (omega (arith, table.room, asked.room, asked.reached.counted.few.links)) ∙ asked.reached.counted.links;
+            holds = λ i h.
+                let own : i < reading.counts.links = omega (arith, asked.reached.counted.links) in
+                get_or-take reading.counts.links links i _ own ∙ link-is (lines text) links table.rows i h;
+          };
         })

@@ -1,5 +1,5 @@
 -- The tests of movements by their table are the paper's, and the turns of the loops over the `M` lines and over the links' shares.
-use Rattle.base_laws.proofs.Kit.{ℕ, zero, suc, ◌+◌, ◌-◌, ◌≤◌, ◌<◌, ◌≡◌, refl, sym, ap, fun_ext, ◌∙◌, Bool, true, false, ◌&&◌, ◌||◌, List, add-one, arith, eq-eqb, ne_eqb, ltb, eqb, eqb·suc-zero, length, get_or, take}
+use Rattle.base_laws.proofs.Kit.{ℕ, zero, suc, ◌+◌, ◌-◌, ◌≤◌, ◌<◌, ◌≡◌, refl, sym, ap, fun_ext, ◌∙◌, Bool, true, false, ◌&&◌, ◌||◌, List, add-one, arith, eq-eqb, ne_eqb, ltb, eqb, eqb·suc-zero, length, get_or}
 use Rattle.std.proofs.lemmas.List.{length-take-le, get_or-take}
 use Rattle.base_search.specs.declared.Refusal.{Refusal}
 use Rattle.base_search.specs.Checks.{Verdict, refusal, each, checked, verdict}
@@ -15,7 +15,7 @@ use Rattle.network_tables.specs.declared.Counts.{Counts}
 use Rattle.network_tables.specs.declared.Reading.{Reading}
 use Rattle.network_tables.specs.Places.{movement_line_in}
 use Rattle.network_tables.specs.declared.Movement.{Movement}
-use Rattle.network_tables.specs.Fields.{movement_fields, movement_by, movement_at, link_in, share_in}
+use Rattle.network_tables.specs.Fields.{movement_fields, movement_by, movement_at, link_in}
 use Rattle.network_tables.specs.Blocks.{block_checks, PassedTo, RowsTo, RowsJudged, RowsHeld, movement_block}
 use Rattle.network_tables.specs.Tables.{Judged, CountsHold, MovementTable, moved_to}
 use Rattle.network_tables.proofs.Tables.{from-link-at, share-at}
@@ -100,7 +100,13 @@ module _ {text : List ℕ} {reading : Reading} {movements₀ : List Movement} (a
         judged-passed (passed-all table.read.passed (omega arith))
         (record {
           reached = reached-next asked.reached (rw past-after-movements at (block-end table.read (omega arith)));
-          table = record { size = table.room ∙ asked.room; holds = movement-is (lines text) movements table.rows };
+          room = table.room ∙ asked.room;
+          table = record {
+            size = length-take-le reading.counts.movements movements (omega (arith, table.room, asked.room, asked.reached.counted.few.movements)) ∙ asked.reached.counted.movements;
+            holds = λ j h.
+                let own : j < reading.counts.movements = omega (arith, asked.reached.counted.movements) in
+                get_or-take reading.counts.movements movements j _ own ∙ movement-is (lines text) movements table.rows j h;
+          };
         })
 
 -- ---- the turns of `check_shares`
@@ -118,36 +124,24 @@ module _ {movements : List Movement} {counts : Counts} (asked : SharesAsked move
   unfolding verdict share_checks_in checked
   shares-next b = let got = rw asked.size at (rw b at told) in passed-next inv h (rw (← add-one i, got))
 
--- ---- the paper's sums of shares, by the part of the table that has the movements
+-- ---- the paper's sums of shares, by the table of the movements
 module _ {network : List Line} {counts : Counts} {movements : List Movement} (c : CountsHold network counts) (t : MovementTable network movements) where
-  abbrev held : List Movement
-  held = take counts.movements movements
-
-  movement-is-held : (j : ℕ) → j < movement_count network → movement_at held j ≡ movement_at movements j
-  movement-is-held j h = get_or-take counts.movements movements j (movement_by (λ f. 0)) (omega (arith, c.movements))
-
-  from-held : (j : ℕ) → j < movement_count network → link_in held 0 j ≡ from_link network j
-  from-held j h = ap (λ (m : Movement). m.from) (movement-is-held j h) ∙ from-link-at t j h
-
-  share-held : (j : ℕ) → j < movement_count network → share_in held j ≡ share network j
-  share-held j h = ap (λ (m : Movement). m.share) (movement-is-held j h) ∙ share-at t j h
-
-  last-of : (m i : ℕ) → m ≤ movement_count network → last_movement_in held m (suc i) ≡ last_movement network m i
+  last-of : (m i : ℕ) → m ≤ movement_count network → last_movement_in movements m (suc i) ≡ last_movement network m i
   unfolding last_movement_in last_movement
   last-of zero i h = refl
-  last-of (suc m) i h = rw (from-held m (omega arith), last-of m i (omega arith))
+  last-of (suc m) i h = rw (from-link-at t m (omega arith), last-of m i (omega arith))
 
-  last-is : (i : ℕ) → last_movement_in held counts.movements (suc i) ≡ last_movement network (movement_count network) i
-  last-is i = ap (λ m. last_movement_in held m (suc i)) c.movements ∙ last-of (movement_count network) i (omega arith)
+  last-is : (i : ℕ) → last_movement_in movements counts.movements (suc i) ≡ last_movement network (movement_count network) i
+  last-is i = ap (λ m. last_movement_in movements m (suc i)) c.movements ∙ last-of (movement_count network) i (omega arith)
 
-  shares-are : (i : ℕ) → share_sum_in held counts.movements (suc i) ≡ sum (movement_count network) (λ j. only (eqb (from_link network j) (suc i)) (share network j))
+  shares-are : (i : ℕ) → share_sum_in movements counts.movements (suc i) ≡ sum (movement_count network) (λ j. only (eqb (from_link network j) (suc i)) (share network j))
   unfolding share_sum_in
-  shares-are i = ap (λ m. share_sum_in held m (suc i)) c.movements ∙ sum-ext (movement_count network) _ _ (λ j h. rw (from-held j h, share-held j h))
+  shares-are i = ap (λ m. share_sum_in movements m (suc i)) c.movements ∙ sum-ext (movement_count network) _ _ (λ j h. rw (from-link-at t j h, share-at t j h))
 
-  pub shares-asked : SharesAsked held counts
-  shares-asked = record { size = length-take-le counts.movements movements (omega (arith, t.size, c.few.movements)); few = c.few }
+  pub shares-asked : SharesAsked movements counts
+  shares-asked = record { size = t.size ∙ sym c.movements; few = c.few }
 
-  pub shares-checked : verdict (each counts.links (share_checks_in held counts)) ≡ verdict (each (link_count network) (share_checks network))
+  pub shares-checked : verdict (each counts.links (share_checks_in movements counts)) ≡ verdict (each (link_count network) (share_checks network))
   unfolding share_checks_in valid_shares_in share_checks valid_shares movement_line
   shares-checked =
       rw c.links

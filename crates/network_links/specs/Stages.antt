@@ -1,5 +1,5 @@
 -- What the stages of a network's reading that judge links and movements ask, and what is held where they pass.
-use Rattle.std.specs.Prelude.{ℕ, ◌≡◌, List, length}
+use Rattle.std.specs.Prelude.{ℕ, ◌≡◌, List, length, take}
 use Rattle.text_reader.specs.Lines.{lines}
 use Rattle.model.specs.declared.Signal.{Signal}
 use Rattle.model.specs.Network.{max_links, max_movements, link_line, movement_line, timeline_line}
@@ -18,7 +18,8 @@ pub record LinksAsked (text : List ℕ) (reading : Reading) (signals : List Sign
 
 pub record LinksHeld (text : List ℕ) (links : List Link) (reading : Reading) : Type 0 where
   pub reached : Reached text (movement_line (lines text) 0) reading
-  pub table : LinkTable (lines text) links
+  pub room : length links ≡ max_links
+  pub table : LinkTable (lines text) (take reading.counts.links links)
 
 pub record MovementsAsked (text : List ℕ) (reading : Reading) (movements : List Movement) : Type 0 where
   pub reached : Reached text (movement_line (lines text) 0) reading
@@ -26,7 +27,8 @@ pub record MovementsAsked (text : List ℕ) (reading : Reading) (movements : Lis
 
 pub record MovementsHeld (text : List ℕ) (movements : List Movement) (reading : Reading) : Type 0 where
   pub reached : Reached text (timeline_line (lines text) 0) reading
-  pub table : MovementTable (lines text) movements
+  pub room : length movements ≡ max_movements
+  pub table : MovementTable (lines text) (take reading.counts.movements movements)
 
 -- the shares are judged by the movements alone
 pub record SharesAsked (movements : List Movement) (counts : Counts) : Type 0 where

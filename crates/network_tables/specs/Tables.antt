@@ -5,7 +5,7 @@ use Rattle.text_reader.specs.Lines.{Line, lines}
 use Rattle.text_reader.specs.Reading.{Starts}
 use Rattle.model.specs.declared.Signal.{Signal}
 use Rattle.base_laws.specs.Test.{every}
-use Rattle.model.specs.Network.{max_links, max_signals, max_movements, entry, link_count, signal_count, movement_count, step_count, tram_count, past_count, on_timeline, tram_line, signal_line, link_line, movement_line, timeline_line, step_line, signal, timeline_time}
+use Rattle.model.specs.Network.{max_signals, entry, link_count, signal_count, movement_count, step_count, tram_count, past_count, on_timeline, tram_line, signal_line, link_line, movement_line, timeline_line, step_line, signal, timeline_time}
 use Rattle.network_tables.specs.declared.Counts.{Counts}
 use Rattle.network_tables.specs.declared.Reading.{Reading}
 use Rattle.network_tables.specs.Places.{Few}
@@ -70,11 +70,11 @@ showing s q shown_for clock =
       greatest = s.greatest;
     }
 
--- the tables of a network have their sizes, and its counts are few
+-- the tables of a network have a link and a movement for each that it has, and its counts are few
 pub record TablesSized (reading : Reading) (links : List Link) (movements : List Movement) (times : List ℕ) : Type 0 where
   pub few : Few reading.counts
-  pub link-size : length links ≡ max_links
-  pub movement-size : length movements ≡ max_movements
+  pub link-size : length links ≡ reading.counts.links
+  pub movement-size : length movements ≡ reading.counts.movements
   pub time-size : length times ≡ time_table_size
 
 -- no signal has more than 8 phases
@@ -94,17 +94,17 @@ pub record Reached (text : List ℕ) (line : ℕ) (reading : Reading) : Type 0 w
   pub signals-start : Starts text reading.signals_at (signal_line (lines text) 0)
   pub shortest-time : Shortest (lines text) reading.shortest
 
--- the trams, one for each line, and the links and movements, by their lines
+-- the trams, the links and the movements, one for each line
 pub record TramTable (network : List Line) (trams : List Tram) : Type 0 where
   pub size : length trams ≡ tram_count network
   pub holds : (k : ℕ) → k < tram_count network → tram_at trams k ≡ tram_by (entry network (tram_line network k))
 
 pub record LinkTable (network : List Line) (links : List Link) : Type 0 where
-  pub size : length links ≡ max_links
+  pub size : length links ≡ link_count network
   pub holds : (i : ℕ) → i < link_count network → link_at links i ≡ link_by (entry network (link_line network i))
 
 pub record MovementTable (network : List Line) (movements : List Movement) : Type 0 where
-  pub size : length movements ≡ max_movements
+  pub size : length movements ≡ movement_count network
   pub holds : (j : ℕ) → j < movement_count network → movement_at movements j ≡ movement_by (entry network (movement_line network j))
 
 -- the time of each boundary of the timeline

@@ -209,8 +209,8 @@ impl Reading {
     }
 }
 
-// A network's text and what its reading gives, but for its signals, which change from step to step: all tables are lent. They are whole, with the counts beside
-// them, as functions asked for tables of the largest size before: a cut one would ask for another.
+// A network's text and what its reading gives, but for its signals, which change from step to step: all tables are lent, those of its links and movements cut to
+// them.
 #[derive(Clone, Copy)]
 pub struct NetworkTables<'a> {
     pub text: &'a [u8],

@@ -1,5 +1,5 @@
 -- The steps of a plan, taken one after another.
-use Rattle.base_laws.proofs.Kit.{ℕ, zero, suc, ◌+◌, ◌*◌, ◌≤◌, ◌<◌, ◌≡◌, refl, sym, ap, ◌∙◌, Bool, true, false, cond, List, [], dec_le, mul-le-mul_right, add-one, arith, le-leb, eqb, length, take, List·getD-eq-default}
+use Rattle.base_laws.proofs.Kit.{ℕ, zero, suc, ◌+◌, ◌*◌, ◌≤◌, ◌<◌, ◌≡◌, refl, sym, ap, ◌∙◌, Bool, true, false, cond, List, [], dec_le, mul-le-mul_right, add-one, arith, le-leb, eqb, length, List·getD-eq-default}
 use Rattle.base_search.specs.declared.Refusal.{Refusal}
 use Rattle.base_search.specs.Checks.{refusal, checked, verdict, Hold}
 use Rattle.base_search.proofs.Laws.{hold-of-passes}
@@ -32,7 +32,6 @@ use Rattle.step_rows.proofs.WaitingTexts.{waiting-first, outside-is}
 use Rattle.step_signals.specs.Step.{SignalsAt}
 use Rattle.step_signals.proofs.Rules.{ready-first}
 use Rattle.step_rows.specs.Rows.{RowHolds}
-use Rattle.step_rows.proofs.Cuts.{first-cut}
 use Rattle.step_rows.proofs.Ledger.{first-written}
 use Rattle.plan_steps.specs.declared.State.{State}
 use Rattle.plan_steps.specs.declared.Lines.{Lines}
@@ -44,7 +43,6 @@ use Rattle.plan_steps.specs.State.{StateAt, first_state, StepAsked, StepGot, fin
 use Rattle.plan_steps.specs.Steps.{RunAsked, RunGot, StepsAsked, Stopped, AllTaken, StepsGot, Running}
 use Rattle.plan_steps.proofs.Verdicts.{plan-stops, plan-surplus, plan-passes}
 use Rattle.plan_steps.proofs.PlanLines.{plan-ends}
-use Rattle.plan_steps.proofs.Fronts.{front}
 use Rattle.plan_steps.proofs.Ledger.{written-again}
 use Rattle.plan_steps.proofs.Reading.{cleared-lent}
 use Rattle.network_trams.proofs.Ready.{trams-ready}
@@ -174,11 +172,9 @@ module _ {tables : NetworkTables} {steps : ℕ} {signals₀ : List Signal} {wait
               };
             }
 
-      module _ {waiting : List ℕ} (waits : FirstWaits (take counts.links tables.links.now) (length (take counts.links tables.links.now)) waiting) where
+      module _ {waiting : List ℕ} (waits : FirstWaits tables.links.now (length tables.links.now) waiting) where
         waiting-start : WaitingTable netw plnn 0 waiting
-        waiting-start =
-            let first = first-cut tables.links.now counts.links (omega (arith, a.tables.link-table.size, a.tables.counted.few.links)) (rw (front tables.links.now counts.links) at waits) in
-            waiting-first plnn a.tables.link-table (rw a.tables.counted.links at first)
+        waiting-start = waiting-first plnn a.tables.link-table (rw a.tables.link-table.size at waits)
 
         state-start : {state : State} → state ≡ first_state tables waiting ledger → {signals : List Signal} → SignalTable netw signals → StateAt network_text plan_text state signals arrivals waiting ledger
         state-start e {signals} table =

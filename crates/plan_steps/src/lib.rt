@@ -277,7 +277,7 @@ pub fn take_steps(
     let mut arrivals = [Arrival::default(); MAX_LINKS];
     // Each number of row 0 of a network that has passed fits (30).
     let _ = step_past::load_past(tables, ledger, &mut arrivals);
-    step_rows::first_waiting(&tables.links[..tables.reading.counts.links], waiting);
+    step_rows::first_waiting(tables.links, waiting);
     let mut state = first_state(tables, waiting, ledger);
     let run = Run {
         plan,

@@ -21,7 +21,7 @@ use Rattle.split_tables.specs.declared.Whole.{Whole}
 use Rattle.split_tables.specs.declared.Halves.{Halves}
 use Rattle.split_tables.specs.Whole.{whole_network, whole_plan}
 use Rattle.split_tables.specs.Halves.{HalvesAsked, HalvesBy, HalvesNumbered}
-use Rattle.split_tables.proofs.Ends.{movement-ends}
+use Rattle.split_tables.proofs.Ends.{halves-asked}
 use Rattle.model_split.specs.Call.{in_set, parts_signals, form_checks, part_checks, lengths, split_checks, split_answer, split_network, buffer_after}
 use Rattle.model_split.specs.Splits.{Buffers, room_of, buffers_after, SplitInTwo}
 use Rattle.model_split.proofs.Promises.{split-in-two}
@@ -84,11 +84,8 @@ module _ {whole : Whole} (p : Passed whole) where
       let u : i < link_count (whole_network whole) = omega (arith, p.counted.links) in
       omega (arith, signal-of-at p.link-table i u, (link-limits (whole_network whole) (valid-network (whole_network whole) p.holds) i u).signal-last, p.counted.signals, p.counted.few.signals)
 
-  pub halves-asked : HalvesAsked whole.tables
-  halves-asked =
-      record {
-        ends = λ j side l k. let e = movement-ends (whole_network whole) p.holds p.movement-table j side (omega (arith, p.counted.movements)) k in (e.0, omega (arith, e.1, p.counted.links));
-      }
+  pub number-asked : HalvesAsked whole.tables
+  number-asked = halves-asked (whole_network whole) p.holds whole.tables p.counted p.movement-table
 
   -- ---- `judge_halves`
   pub parts-asked : PartsAsked whole.tables

@@ -14,8 +14,9 @@ use Rattle.plan_steps.proofs.Steps.{step-form}
 use Rattle.split_tables.specs.declared.Whole.{Whole}
 use Rattle.split_tables.specs.declared.HalfTables.{HalfTables}
 use Rattle.split_tables.specs.Whole.{whole_network}
-use Rattle.split_tables.proofs.Ends.{movement-ends, movements-there}
-use Rattle.split_checks.specs.Tables.{crosses_in, demand_free_in, EndsAsked}
+use Rattle.split_tables.specs.Halves.{HalvesAsked}
+use Rattle.split_tables.proofs.Ends.{movement-ends, halves-asked}
+use Rattle.split_checks.specs.Tables.{crosses_in, demand_free_in}
 use Rattle.split_checks.specs.Network.{StepsAsked, step_free}
 use Rattle.split_checks.proofs.Tests.{test-fails, test-holds}
 
@@ -34,8 +35,8 @@ module _ {whole : Whole} (a : StepsAsked whole) (half : HalfTables) where
   unfolding every
   steps-none size = record { within = omega arith; room = size; starts = a.starts; free = refl }
 
-  pub free-asked : EndsAsked whole.tables
-  free-asked = movements-there (whole_network whole) a.holds whole.tables a.counted a.movement-table
+  pub free-asked : HalvesAsked whole.tables
+  free-asked = halves-asked (whole_network whole) a.holds whole.tables a.counted a.movement-table
 
   module _ {step : List ℕ} {line n : ℕ} (inv : StepsTo whole half step line n) where
     module _ {width : ℕ} (wide : width ≡ 1 + whole.tables.reading.counts.links) {next : ℕ} {part : List ℕ}

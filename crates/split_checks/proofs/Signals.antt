@@ -2,7 +2,7 @@
 use Rattle.std.specs.List.{list_all, zip}
 use Rattle.std.proofs.lemmas.List.{take_all, get_or_default}
 use Rattle.std.proofs.lemmas.Slice.Zip.{get_or-zip, length-zip}
-use Rattle.base_laws.proofs.Kit.{◌≡◌, refl, ap, ◌∙◌, Bool, true, false, not, ◌||◌, List, ℕ, ◌-◌, ◌≤◌, ◌<◌, dec_lt, arith, eq-eqb, eqb, get_or, get_or-take, length, length-take, take}
+use Rattle.base_laws.proofs.Kit.{◌≡◌, refl, ap, ◌∙◌, Bool, true, false, not, ◌||◌, List, ℕ, ◌-◌, ◌≤◌, ◌<◌, dec_lt, arith, eq-eqb, eqb, get_or, length, take}
 use Rattle.base_laws.specs.Test.{◌or◌, every}
 use Rattle.model.specs.Network.{max_signals, link_count, signal_of}
 use Rattle.base_laws.proofs.Tests.{every-same}
@@ -22,37 +22,34 @@ use Rattle.split_checks.specs.Tables.{own_signal_by, own_signal_in}
 use Rattle.split_checks.specs.Network.{PartsTold}
 
 -- ---- the links beside their numbers in the half
-module _ (links : List Link) (half : HalfTables) (count : ℕ) (few : count ≤ length links) (room : count ≤ length half.links) where
+module _ (links : List Link) (half : HalfTables) (room : length links ≤ length half.links) where
   abbrev numbered : List (Link × ℕ)
-  numbered = zip (take count links) half.links
+  numbered = zip links half.links
 
-  numbered-size : length numbered ≡ count
-  numbered-size = omega (arith, length-zip (take count links) half.links, length-take {A = Link})
+  numbered-size : length numbered ≡ length links
+  numbered-size = omega (arith, length-zip links half.links)
 
-  numbered-at : (i : ℕ) (none : Link × ℕ) → i < count → get_or numbered i none ≡ (get_or links i none.0, get_or half.links i none.1)
-  numbered-at i none l =
-      get_or-zip (take count links) half.links i none (omega (arith, l, length-take {A = Link})) (omega (arith, l, room))
-      ∙ ap (λ (x : Link). (x, get_or half.links i none.1)) (get_or-take count links i none.0 l)
+  numbered-at : (i : ℕ) (none : Link × ℕ) → i < length links → get_or numbered i none ≡ (get_or links i none.0, get_or half.links i none.1)
+  numbered-at i none l = get_or-zip links half.links i none l (omega (arith, l, room))
 
   -- their signals
-  pub numbered-signal : ((i : ℕ) → i < count → signal_in links i ≤ max_signals) → (i : ℕ) (item : Link × ℕ) → i < length numbered → item ≡ get_or numbered i item
+  pub numbered-signal : ((i : ℕ) → i < length links → signal_in links i ≤ max_signals) → (i : ℕ) (item : Link × ℕ) → i < length numbered → item ≡ get_or numbered i item
       → item.0.signal ≤ max_signals
   numbered-signal asked i item l e =
-      let u : i < count = omega (arith, l, numbered-size) in
-      let v : i < length links = omega (arith, u, few) in
-      let same : item.0.signal ≡ signal_in links i = ap (λ (x : Link × ℕ). x.0.signal) (e ∙ numbered-at i item u) ∙ ap (λ (x : Link). x.signal) (get_or_default links i item.0 _ v) in
+      let u : i < length links = omega (arith, l, numbered-size) in
+      let same : item.0.signal ≡ signal_in links i = ap (λ (x : Link × ℕ). x.0.signal) (e ∙ numbered-at i item u) ∙ ap (λ (x : Link). x.signal) (get_or_default links i item.0 _ u) in
       omega (arith, same, asked i u)
 
-  pub numbered-own : list_all (λ item. own_signal_by half item.1 item.0.signal) numbered ≡ every count (own_signal_in links half)
+  pub numbered-own : list_all (λ item. own_signal_by half item.1 item.0.signal) numbered ≡ every (length links) (own_signal_in links half)
   numbered-own =
       let own = λ (item : Link × ℕ). own_signal_by half item.1 item.0.signal in
       let none : Link × ℕ = (link_by (λ k. 0), 0) in
-      let all : take count numbered ≡ numbered = take_all count numbered (omega (arith, numbered-size)) in
-      rw all at (items-every own numbered none count (omega (arith, numbered-size))) ∙ every-same count _ _ (λ i l. ap own (numbered-at i none l))
+      let all : take (length links) numbered ≡ numbered = take_all (length links) numbered (omega (arith, numbered-size)) in
+      rw all at (items-every own numbered none (length links) (omega (arith, numbered-size))) ∙ every-same (length links) _ _ (λ i l. ap own (numbered-at i none l))
 
-pub parts-told : (tables : NetworkTables) (half : HalfTables) {told : Bool} → told ≡ every tables.reading.counts.links (own_signal_in tables.links.now half) → PartsTold tables half told
+pub parts-told : (tables : NetworkTables) (half : HalfTables) {told : Bool} → told ≡ every (length tables.links.now) (own_signal_in tables.links.now half) → PartsTold tables half told
 unfolding parts_signals
-parts-told tables half e network holds counted table set h = e ∙ ap (λ n. every n (own_signal_in tables.links.now half)) counted ∙ every-same (link_count network) _ _ own_is
+parts-told tables half e network holds counted table set h = e ∙ ap (λ n. every n (own_signal_in tables.links.now half)) table.size ∙ every-same (link_count network) _ _ own_is
   where
     twice : (b : Bool) → b ≡ not (not b)
     twice true = refl

@@ -1,5 +1,5 @@
 -- 40 by the tables is that of the definitions, where the tables are a network's and its halves'.
-use Rattle.base_laws.proofs.Kit.{◌≡◌, refl, sym, ap, ap₂, ◌∙◌, Bool, not, ◌&&◌, List, ℕ, zero, suc, ◌-◌, ◌^◌, ◌/◌, ◌≤◌, ◌<◌, take, length, length-take, get_or-take, dec_lt, div-lt_iff_lt-mul, div-eq_of_lt, arith, lt-ltb, le-ltb, eq-eqb, ne_eqb, leb, ltb, eqb}
+use Rattle.base_laws.proofs.Kit.{◌≡◌, refl, sym, ap, ap₂, ◌∙◌, Bool, not, ◌&&◌, List, ℕ, zero, suc, ◌-◌, ◌^◌, ◌/◌, ◌<◌, length, dec_lt, div-lt_iff_lt-mul, div-eq_of_lt, arith, lt-ltb, le-ltb, eq-eqb, ne_eqb, leb, ltb, eqb}
 use Rattle.base_search.specs.Checks.{Hold}
 use Rattle.text_reader.specs.Lines.{Line}
 use Rattle.base_laws.specs.Test.{◌and◌, ◌or◌, every}
@@ -115,12 +115,6 @@ module _ {network : List Line} (holds : Hold (network_checks network)) {links : 
       kinds-are)
 
 -- ---- `can_split`
--- the links in front of a table
-none-front : (links : List Link) (n : ℕ) → n ≤ length links → every (length (take n links)) (none_wait_in (take n links)) ≡ every n (none_wait_in links)
-none-front links n h =
-    let e : length (take n links) ≡ n = omega (arith, length-take n links) in
-    rw e (every-same n _ _ (λ i l. ap (λ (x : Link). eqb x.waiting 0) (get_or-take n links i _ l)))
-
 -- the counts of the tables are those of the network
 pub at_count : {n m : ℕ} → n ≡ m → {A : Type 0} (f : ℕ → A) {x : A} → x ≡ f n → x ≡ f m
 at_count e f h = h ∙ ap f e
@@ -132,16 +126,15 @@ module _ {whole : Whole} (a : SplitAsked whole) (halves : Halves) where
   abbrev first : List ℕ
   first = halves.first.links
 
-  pub split-told : {none : Bool} → none ≡ every (length (take counts.links whole.tables.links.now)) (none_wait_in (take counts.links whole.tables.links.now))
+  pub split-told : {none : Bool} → none ≡ every (length whole.tables.links.now) (none_wait_in whole.tables.links.now)
       → {own other : Bool} → own ≡ not (eqb (rank (is_in first) counts.links) 0) → other ≡ not (eqb (rank (is_in halves.second.links) counts.links) 0)
       → {kinds free : Bool} → kinds ≡ every counts.movements (right_kind_in whole.tables.links.now whole.tables.movements.now first counts.movements)
       → free ≡ every (step_count (whole_network whole)) (step_free (whole_network whole) whole.tables.movements.now first)
       → SplitTold (whole_network whole) halves (eqb halves.above 0 && eqb counts.past 0 && none && own && other && kinds && free)
   split-told w f s k d set above by =
       let c = a.steps-asked.counted in
-      let links-there : counts.links ≤ length whole.tables.links.now = omega (arith, whole.tables.sized.link-size, whole.tables.sized.few.links) in
       rw (f, s)
       (can-told a.steps-asked.holds a.link-table a.steps-asked.movement-table set by.first by.second above c.past
-      (at_count c.links (λ n. every n (none_wait_in whole.tables.links.now)) (w ∙ none-front whole.tables.links.now counts.links links-there))
+      (at_count a.link-table.size (λ n. every n (none_wait_in whole.tables.links.now)) w)
       (at_count c.links (rank (is_in first)) refl) (at_count c.links (rank (is_in halves.second.links)) refl)
       (at_count c.movements (λ n. every n (right_kind_in whole.tables.links.now whole.tables.movements.now first n)) k) d)

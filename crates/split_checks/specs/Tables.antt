@@ -7,7 +7,7 @@ use Rattle.network_tables.specs.declared.Movement.{Movement}
 use Rattle.network_tables.specs.declared.NetworkTables.{NetworkTables}
 use Rattle.network_tables.specs.Fields.{waiting_at_start_in, exit_rate_in, signal_in, movement_at, link_in}
 use Rattle.split_tables.specs.declared.HalfTables.{HalfTables}
-use Rattle.split_tables.specs.Tables.{is_in, is_border, MovementsAsked}
+use Rattle.split_tables.specs.Tables.{is_in, is_border}
 
 -- nobody waits at link i
 abbrev pub none_wait_in : List Link → ℕ → Bool
@@ -41,10 +41,6 @@ own_signal_by half number signal = eqb number 0 or eqb signal 0 or is_in half.si
 -- the same of link i
 abbrev pub own_signal_in : List Link → HalfTables → ℕ → Bool
 own_signal_in links half i = own_signal_by half (get_or half.links i 0) (signal_in links i)
-
--- the movements of a network's tables name links
-abbrev pub EndsAsked : NetworkTables → Type 0
-EndsAsked tables = MovementsAsked tables.movements.now tables.reading.counts.movements
 
 -- the links of a network's tables have each one of the signals or none
 abbrev pub PartsAsked : NetworkTables → Type 0

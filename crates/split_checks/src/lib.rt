@@ -8,8 +8,9 @@ ghost use Rattle.model.specs.Network.{max_links, max_signals, step_count};
 ghost use Rattle.model_split.specs.Numbering.{rank};
 ghost use Rattle.split_tables.specs.Tables.{is_in};
 ghost use Rattle.network_tables.specs.Fields.{step_size, demand_in};
+ghost use Rattle.split_tables.specs.Halves.{HalvesAsked};
 ghost use Rattle.split_tables.specs.Whole.{whole_network};
-ghost use Rattle.split_checks.specs.Tables.{none_wait_in, stands_apart_in, right_kind_in, demand_free_in, own_signal_by, EndsAsked, PartsAsked};
+ghost use Rattle.split_checks.specs.Tables.{none_wait_in, stands_apart_in, right_kind_in, demand_free_in, own_signal_by, PartsAsked};
 ghost use Rattle.split_checks.specs.Network.{StepsAsked, step_free, SplitAsked, SplitTold, PartsTold};
 ghost use Rattle.split_checks.specs.Plan.{FormAsked, LineForm, FormTold};
 
@@ -30,7 +31,7 @@ fn nobody_waits(links: &[Link]) -> bool
 struct Border<'a> {
     tables: &'a NetworkTables<'a>,
     half: &'a HalfTables,
-    ghost ends: { EndsAsked tables.now },
+    ghost ends: { HalvesAsked tables.now },
 }
 
 impl Border<'_> {
@@ -136,7 +137,7 @@ pub fn can_split(whole: &Whole, halves: &Halves) -> bool
     };
     (halves.above == 0)
         & (counts.past == 0)
-        & nobody_waits(&tables.links[..counts.links])
+        & nobody_waits(tables.links)
         & has_links(first, counts.links)
         & has_links(&halves.second, counts.links)
         & border.right_kinds()
@@ -154,13 +155,12 @@ fn own_signal(half: &HalfTables, number: u32, signal: usize) -> bool
     (number == 0) | (half.signals[signal - 1] != 0)
 }
 
-// Whether no signal has links in both halves (41). By index, as the links' numbers in the half are.
+// Whether no signal has links in both halves (41).
 pub fn parts_signals(tables: &NetworkTables, half: &HalfTables) -> bool
     requires { PartsAsked tables.now }
     ensures { PartsTold tables.now half.now result }
 {
-    let links = &tables.links[..tables.reading.counts.links];
-    links.iter().zip(&half.links).all(|(link, number)| own_signal(
+    tables.links.iter().zip(&half.links).all(|(link, number)| own_signal(
         half,
         *number,
         link.signal as usize,

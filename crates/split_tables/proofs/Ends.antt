@@ -12,6 +12,7 @@ use Rattle.network_tables.specs.Fields.{movement_at, link_in}
 use Rattle.network_tables.specs.Tables.{CountsHold, MovementTable}
 use Rattle.network_tables.proofs.Tables.{from-link-at, to-link-at}
 use Rattle.split_tables.specs.Tables.{LinksNamed, MovementsAsked}
+use Rattle.split_tables.specs.Halves.{HalvesAsked}
 
 -- a movement of such a table names two links
 pub ends-named : {movements : List Movement} {count j : ℕ} → MovementsAsked movements count → j < count → LinksNamed (movement_at movements j)
@@ -44,3 +45,7 @@ module _ (network : List Line) (holds : Hold (network_checks network)) where
         size = tables.sized.movement-size;
         links = λ j side l s. let e = movement-ends table j side (omega (arith, counted.movements)) s in (e.0, omega (arith, e.1, counted.links, tables.sized.few.links));
       }
+
+  pub halves-asked : (tables : NetworkTables) → CountsHold network tables.reading.counts → MovementTable network tables.movements.now → HalvesAsked tables
+  halves-asked tables counted table =
+      record { ends = λ j side l s. let e = movement-ends table j side (omega (arith, counted.movements)) s in (e.0, omega (arith, e.1, counted.links)) }

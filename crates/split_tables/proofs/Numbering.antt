@@ -2,7 +2,7 @@
 use Rattle.std.specs.List.{list_any, list_all, enumerate_from}
 use Rattle.std.proofs.lemmas.List.{take_all}
 use Rattle.std.proofs.lemmas.List.FromFn.{length-enumerate_from, get_or-enumerate_from}
-use Rattle.base_laws.proofs.Kit.{ℕ, suc, ◌+◌, ◌<◌, ◌≡◌, refl, ap, ◌∙◌, Bool, true, false, not, ◌&&◌, ◌||◌, List, [], ◌∷◌, take, get_or, get_or-take, length, length-take, arith, eqb}
+use Rattle.base_laws.proofs.Kit.{ℕ, suc, ◌+◌, ◌<◌, ◌≡◌, refl, ap, ◌∙◌, Bool, true, false, not, ◌&&◌, ◌||◌, List, [], ◌∷◌, take, get_or, length, arith, eqb}
 use Rattle.text_reader.specs.Lines.{Line}
 use Rattle.base_laws.specs.Test.{◌or◌}
 use Rattle.base_laws.specs.Sum.{only}
@@ -11,7 +11,7 @@ use Rattle.model.specs.Network.{link_count, movement_count}
 use Rattle.network_tables.specs.declared.Link.{Link}
 use Rattle.network_tables.specs.declared.NetworkTables.{NetworkTables}
 use Rattle.network_tables.specs.Fields.{movement_at, link_by}
-use Rattle.network_tables.specs.Tables.{CountsHold, LinkTable}
+use Rattle.network_tables.specs.Tables.{LinkTable}
 use Rattle.network_tables.proofs.Tables.{signal-of-at, from-link-at, to-link-at}
 use Rattle.network_tables.proofs.Every.{items-every}
 use Rattle.model_split.specs.Numbering.{rank}
@@ -84,24 +84,22 @@ outside-told set links r =
 
 -- ---- `number_halves`
 -- the signals with a link outside the first half are those of the second
-pub outside-is : {network : List Line} (tables : NetworkTables) → CountsHold network tables.reading.counts → LinkTable network tables.links.now → (set r : ℕ)
-    → outside_has set (take tables.reading.counts.links tables.links.now) r ≡ in_second network (in_set set) r
+pub outside-is : {network : List Line} (tables : NetworkTables) → LinkTable network tables.links.now → (set r : ℕ)
+    → outside_has set tables.links.now r ≡ in_second network (in_set set) r
 unfolding outside_has in_second
-outside-is {network} tables counted table set r =
-    let e : length (take tables.reading.counts.links tables.links.now) ≡ link_count network = omega (arith, length-take {A = Link}, counted.links, tables.sized.few.links, table.size) in
-    rw e (ap not (every-same (link_count network) _ _ (λ i l. ap (λ s. in_set set i or not (eqb s (suc r)))
-    (ap (λ (x : Link). x.signal) (get_or-take tables.reading.counts.links tables.links.now i _ (omega (arith, counted.links))) ∙ signal-of-at table i l))))
+outside-is {network} tables table set r =
+    rw table.size (ap not (every-same (link_count network) _ _ (λ i l. ap (λ s. in_set set i or not (eqb s (suc r))) (signal-of-at table i l))))
 
 module _ (set : ℕ) (tables : NetworkTables) {links_post₁ signals_post₁ links_post₂ signals_post₂ : ℕ → Bool → Type 0} {first second : HalfTables}
     (one : HalfTold tables links_post₁ signals_post₁ first) (two : HalfTold tables links_post₂ signals_post₂ second)
     (in-first : (i : ℕ) (b : Bool) → links_post₁ i b → b ≡ in_set set i)
-    (stays : (r : ℕ) (b : Bool) → signals_post₁ r b → b ≡ not (outside_has set (take tables.reading.counts.links tables.links.now) r))
+    (stays : (r : ℕ) (b : Bool) → signals_post₁ r b → b ≡ not (outside_has set tables.links.now r))
     (in-second : (i : ℕ) (b : Bool) → links_post₂ i b → b ≡ not (in_set set i))
-    (leaves : (r : ℕ) (b : Bool) → signals_post₂ r b → b ≡ outside_has set (take tables.reading.counts.links tables.links.now) r) {above : ℕ} where
+    (leaves : (r : ℕ) (b : Bool) → signals_post₂ r b → b ≡ outside_has set tables.links.now r) {above : ℕ} where
   pub halves-numbered : HalvesNumbered set tables (record { first = first; second = second; above = above })
   unfolding first_half second_half
   halves-numbered network counted table moves =
       record {
-        first = one network counted moves (first_half network (in_set set)) (λ i b l p. in-first i b p) (λ r b l p. stays r b p ∙ ap not (outside-is tables counted table set r));
-        second = two network counted moves (second_half network (in_set set)) (λ i b l p. in-second i b p) (λ r b l p. leaves r b p ∙ outside-is tables counted table set r);
+        first = one network counted moves (first_half network (in_set set)) (λ i b l p. in-first i b p) (λ r b l p. stays r b p ∙ ap not (outside-is tables table set r));
+        second = two network counted moves (second_half network (in_set set)) (λ i b l p. in-second i b p) (λ r b l p. leaves r b p ∙ outside-is tables table set r);
       }

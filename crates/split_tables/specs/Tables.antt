@@ -37,5 +37,5 @@ pub record LinksNamed (movement : Movement) : Type 0 where
 
 pub record MovementsAsked (movements : List Movement) (count : ℕ) : Type 0 where
   pub few : count ≤ max_movements
-  pub size : length movements ≡ max_movements
+  pub size : length movements ≡ count
   pub links : (j side : ℕ) → j < count → side < 2 → (1 ≤ link_in movements side j) × (link_in movements side j ≤ max_links)

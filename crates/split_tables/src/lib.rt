@@ -128,7 +128,7 @@ pub fn number_halves(set: u32, tables: &NetworkTables, halves: &mut Halves)
     ensures numbered { HalvesNumbered set tables.now halves.new }
 {
     let counts = tables.reading.counts;
-    let links = &tables.links[..counts.links];
+    let links = tables.links;
     let in_first = |i| in_set(set, i);
     let stays = |r| !outside_has(set, links, r);
     halves.first = number_half(tables, in_first, stays);

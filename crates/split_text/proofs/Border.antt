@@ -1,5 +1,5 @@
 -- The numbers of border movements, added up one after another.
-use Rattle.base_laws.proofs.Kit.{ℕ, suc, ◌+◌, ◌*◌, ◌-◌, ◌≤◌, ◌<◌, ◌≡◌, refl, ap, ap₂, ◌∙◌, Bool, true, false, List, ℕ_discrete, add-one, arith, eq-eqb, ne_eqb, eqb, length, length-set, get_or, replicate, length-replicate, get_or-replicate, get_or-set_same, get_or-set_other, get_or-take, take, length-take}
+use Rattle.base_laws.proofs.Kit.{ℕ, suc, ◌+◌, ◌*◌, ◌-◌, ◌≤◌, ◌<◌, ◌≡◌, refl, sym, ap, ap₂, ◌∙◌, Bool, true, false, List, ℕ_discrete, add-one, arith, eq-eqb, ne_eqb, eqb, length, length-set, get_or, replicate, length-replicate, get_or-replicate, get_or-set_same, get_or-set_other}
 use Rattle.std.proofs.lemmas.List.{get_or_default}
 use Rattle.text_reader.specs.Field.{largest}
 use Rattle.base_laws.specs.Test.{◌and◌}
@@ -43,9 +43,9 @@ module _ (link number : ℕ) (sums : List ℕ) where
   added-size true = length-set sums (link - 1) (get_or sums (link - 1) 0 + number)
   added-size false = refl
 
--- ---- the movements in front of a table
-pub movement-here : (movements : List Movement) (n j : ℕ) (none : Movement) → j < length (take n movements) → get_or (take n movements) j none ≡ movement_at movements j
-movement-here movements n j none h = get_or_default (take n movements) j none (movement_by (λ k. 0)) h ∙ get_or-take n movements j (movement_by (λ k. 0)) (omega (arith, length-take n movements))
+-- ---- an item of the table
+pub movement-here : (movements : List Movement) (j : ℕ) (none : Movement) → j < length movements → get_or movements j none ≡ movement_at movements j
+movement-here movements j none h = get_or_default movements j none (movement_by (λ k. 0)) h
 
 -- ---- `add_border`: the first j movements
 side-small : (side : Side) → side_number side < 2
@@ -56,9 +56,8 @@ end-is : (movements : List Movement) (j : ℕ) (side : Side) → end_on side (mo
 end-is movements j From = refl
 end-is movements j To = refl
 
-pub border-ends : {movements : List Movement} {count : ℕ} → BorderAsked movements count → (j : ℕ) (none : Movement) → j < length (take count movements)
-    → LinksNamed (get_or (take count movements) j none)
-border-ends {movements} {count} a j none h = rw (movement-here movements count j none h) (ends-named a (omega (arith, h, length-take count movements)))
+pub border-ends : {movements : List Movement} {count : ℕ} → BorderAsked movements count → (j : ℕ) (none : Movement) → j < length movements → LinksNamed (get_or movements j none)
+border-ends {movements} a j none h = rw (movement-here movements j none h) (ends-named a (omega (arith, h, a.size)))
 
 pub record BorderTo (movements : List Movement) (numbers : List ℕ) (count : ℕ) (side : Side) (post : ℕ → ℕ → Type 0) (sums : List ℕ) (j : ℕ) : Type 0 where
   pub size : length sums ≡ max_links
@@ -75,14 +74,14 @@ module _ {movements : List Movement} {count : ℕ} (a : BorderAsked movements co
         are = λ f g i. zeros-at max_links i;
       }
 
-  module _ {j : ℕ} (h : j < length (take count movements)) (none : Movement) where
+  module _ {j : ℕ} (h : j < length movements) (none : Movement) where
     within : j < count
-    within = omega (arith, h, length-take count movements)
+    within = omega (arith, h, a.size)
 
-    here : get_or (take count movements) j none ≡ movement_at movements j
-    here = movement-here movements count j none h
+    here : get_or movements j none ≡ movement_at movements j
+    here = movement-here movements j none h
 
-    module _ {sums : List ℕ} (t : BorderTo movements numbers count side post sums j) {link : ℕ} (e : link ≡ end_on side (get_or (take count movements) j none)) where
+    module _ {sums : List ℕ} (t : BorderTo movements numbers count side post sums j) {link : ℕ} (e : link ≡ end_on side (get_or movements j none)) where
       named : link ≡ link_in movements (side_number side) j
       named = e ∙ ap (end_on side) here ∙ end-is movements j side
 
@@ -92,7 +91,7 @@ module _ {movements : List Movement} {count : ℕ} (a : BorderAsked movements co
           let u : link - 1 < max_links = omega (arith, named, l) in
           (omega (arith, named, l), omega (arith, named, l, t.size), omega (arith, t.small (link - 1) u, a.few, within))
 
-      pub border-next : {border : Bool} {number : ℕ} → border ≡ is_border (get_or (take count movements) j none) numbers → number < 4294967296 → post j number → {new : List ℕ}
+      pub border-next : {border : Bool} {number : ℕ} → border ≡ is_border (get_or movements j none) numbers → number < 4294967296 → post j number → {new : List ℕ}
           → new ≡ added_at border link number sums → BorderTo movements numbers count side post new (j + 1)
       unfolding border_sum sum part
       border-next {border} {number} c few p w =
@@ -104,8 +103,6 @@ module _ {movements : List Movement} {count : ℕ} (a : BorderAsked movements co
           })
 
   -- all movements
-  pub border-all : {sums : List ℕ} {j : ℕ} → BorderTo movements numbers count side post sums j → length (take count movements) ≡ j → (f : ℕ → ℕ) → Gives post count f
+  pub border-all : {sums : List ℕ} {j : ℕ} → BorderTo movements numbers count side post sums j → length movements ≡ j → (f : ℕ → ℕ) → Gives post count f
       → Bordered movements numbers count (side_number side) f sums
-  border-all t e f g =
-      let all : count ≡ length (take count movements) = omega (arith, length-take count movements, a.few, a.size) in
-      record { are = rw (all ∙ e) (t.are f g) }
+  border-all t e f g = record { are = rw (sym a.size ∙ e) (t.are f g) }

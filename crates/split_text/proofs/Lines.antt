@@ -129,49 +129,49 @@ module _ (trams : List Tram) (half : HalfTables) where
   pub trams-found : {found : ℕ} → found ≡ length (rows_to (length trams) tram-rows) → found ≡ rank (tram_in trams half) (length trams)
   trams-found e = e ∙ ap length (rows-are (length trams) (tram_in trams half) (tram_row trams half)) ∙ picked-length (tram_in trams half) (tram_row trams half) (length trams)
 
--- ---- the `Q` lines of the links in front of a table
-module _ (links : List Link) (rates : List ℕ) (half : HalfTables) (n : ℕ) where
+-- ---- the `Q` lines of a table's links
+module _ (links : List Link) (rates : List ℕ) (half : HalfTables) where
   abbrev pub link-rows : ℕ → List (List ℕ)
   link-rows i = cond (is_in half.links i) (link_row links rates half i ∷ []) []
 
-  module _ (i : ℕ) (none : Link) (h : i < length (take n links)) where
-    pub link-here : get_or (take n links) i none ≡ link_at links i
-    link-here = get_or_default (take n links) i none (link_by (λ k. 0)) h ∙ get_or-take n links i (link_by (λ k. 0)) (omega (arith, length-take n links))
+  module _ (i : ℕ) (none : Link) (h : i < length links) where
+    pub link-here : get_or links i none ≡ link_at links i
+    link-here = get_or_default links i none (link_by (λ k. 0)) h
 
-    pub link-given : (changed : Option Link) → changed ≡ link_kept rates half i (get_or (take n links) i none) → RowIs (λ link row. row ≡ fields.link_row link) changed (link-rows i)
+    pub link-given : (changed : Option Link) → changed ≡ link_kept rates half i (get_or links i none) → RowIs (λ link row. row ≡ fields.link_row link) changed (link-rows i)
     unfolding link_kept link_row is_in raised
     link-given changed e = rw (e, link-here) (row-of fields.link_row (eqb (get_or half.links i 0) 0) _ _ refl)
 
-  pub links-put : n ≤ length links → {old new : Output} → Put (length (take n links)) (line_texts letter_q (rows_to (length (take n links)) link-rows)) old new
+  pub links-put : {n : ℕ} → length links ≡ n → {old new : Output} → Put (length links) (line_texts letter_q (rows_to (length links) link-rows)) old new
       → Put n (line_texts letter_q (picked n (is_in half.links) (link_row links rates half))) old new
-  links-put h p = let e : length (take n links) ≡ n = omega (arith, length-take n links) in rw (e, rows-are n (is_in half.links) (link_row links rates half)) at p
+  links-put {n} e p = rw (e, rows-are n (is_in half.links) (link_row links rates half)) at p
 
--- ---- the `M` lines of the movements in front of a table
-module _ (movements : List Movement) (half : HalfTables) (n : ℕ) where
+-- ---- the `M` lines of a table's movements
+module _ (movements : List Movement) (half : HalfTables) where
   abbrev pub movement-rows : ℕ → List (List ℕ)
   movement-rows j = cond (is_in half.movements j) (movement_row movements half j ∷ []) []
 
-  module _ (j : ℕ) (none : Movement) (h : j < length (take n movements)) where
-    pub movement-given : (changed : Option Movement) → changed ≡ movement_kept half j (get_or (take n movements) j none) → RowIs (λ movement row. row ≡ fields.movement_row movement) changed (movement-rows j)
+  module _ (j : ℕ) (none : Movement) (h : j < length movements) where
+    pub movement-given : (changed : Option Movement) → changed ≡ movement_kept half j (get_or movements j none) → RowIs (λ movement row. row ≡ fields.movement_row movement) changed (movement-rows j)
     unfolding movement_kept movement_row is_in
-    movement-given changed e = rw (e, movement-here movements n j none h) (row-of fields.movement_row (eqb (get_or half.movements j 0) 0) _ _ refl)
+    movement-given changed e = rw (e, movement-here movements j none h) (row-of fields.movement_row (eqb (get_or half.movements j 0) 0) _ _ refl)
 
-  pub movements-put : n ≤ length movements → {old new : Output} → Put (length (take n movements)) (line_texts letter_m (rows_to (length (take n movements)) movement-rows)) old new
+  pub movements-put : {n : ℕ} → length movements ≡ n → {old new : Output} → Put (length movements) (line_texts letter_m (rows_to (length movements) movement-rows)) old new
       → Put n (line_texts letter_m (picked n (is_in half.movements) (movement_row movements half))) old new
-  movements-put h p = let e : length (take n movements) ≡ n = omega (arith, length-take n movements) in rw (e, rows-are n (is_in half.movements) (movement_row movements half)) at p
+  movements-put {n} e p = rw (e, rows-are n (is_in half.movements) (movement_row movements half)) at p
 
 -- ---- what is asked of each item
 pub tram-signal : (trams : List Tram) → TramsAsked trams → (k : ℕ) (none : Tram) → k < length trams → (get_or trams k none).signal ≤ max_signals
 tram-signal trams a k none h = rw (get_or_default trams k none (tram_by (λ k. 0)) h) (a.signals k h)
 
 module _ {tables : NetworkTables} {output : Output} where
-  pub link-signal : LinksAsked tables output → (i : ℕ) (none : Link) → i < length (take tables.reading.counts.links tables.links.now)
-      → (i < max_links) × ((get_or (take tables.reading.counts.links tables.links.now) i none).signal ≤ max_signals)
+  pub link-signal : LinksAsked tables output → (i : ℕ) (none : Link) → i < length tables.links.now
+      → (i < max_links) × ((get_or tables.links.now i none).signal ≤ max_signals)
   link-signal a i none h =
-      let l : i < tables.reading.counts.links = omega (arith, length-take tables.reading.counts.links tables.links.now) in
-      (omega (arith, l, tables.sized.few.links), rw (link-here tables.links.now [] (record { links = []; signals = []; movements = [] }) tables.reading.counts.links i none h) (a.signals i l))
+      let l : i < tables.reading.counts.links = omega (arith, h, tables.sized.link-size) in
+      (omega (arith, l, tables.sized.few.links), rw (link-here tables.links.now [] (record { links = []; signals = []; movements = [] }) i none h) (a.signals i l))
 
-  pub movement-ends : MovementsAsked tables output → (j : ℕ) (none : Movement) → j < length (take tables.reading.counts.movements tables.movements.now)
-      → (j < max_movements) × LinksNamed (get_or (take tables.reading.counts.movements tables.movements.now) j none)
+  pub movement-ends : MovementsAsked tables output → (j : ℕ) (none : Movement) → j < length tables.movements.now
+      → (j < max_movements) × LinksNamed (get_or tables.movements.now j none)
   movement-ends a j none h =
-      (omega (arith, h, length-take tables.reading.counts.movements tables.movements.now, tables.sized.few.movements), border-ends a.table-asked j none h)
+      (omega (arith, h, tables.sized.movement-size, tables.sized.few.movements), border-ends a.table-asked j none h)

@@ -118,8 +118,11 @@ fn put_links(
     requires { LinksAsked tables.now output.old }
     ensures { Put tables.now.reading.counts.links (line_texts letter_q (picked tables.now.reading.counts.links (is_in half.now.links) (link_row tables.now.links.now rates.now half.now))) output.old output.new }
 {
-    let links = &tables.links[..tables.reading.counts.links];
-    output.put_rows(b'Q', links, |i, link| link_kept(i, link, rates, half));
+    output.put_rows(
+        b'Q',
+        tables.links,
+        |i, link| link_kept(i, link, rates, half),
+    );
 }
 
 // A movement as the half has it, if it is inside.
@@ -142,10 +145,9 @@ fn put_movements(tables: &NetworkTables, half: &HalfTables, output: &mut Output)
     requires { MovementsAsked tables.now output.old }
     ensures { Put tables.now.reading.counts.movements (line_texts letter_m (picked tables.now.reading.counts.movements (is_in half.now.movements) (movement_row tables.now.movements.now half.now))) output.old output.new }
 {
-    let movements = &tables.movements[..tables.reading.counts.movements];
     output.put_rows(
         b'M',
-        movements,
+        tables.movements,
         |j, movement| movement_kept(j, movement, half),
     );
 }
@@ -200,9 +202,8 @@ fn add_border<F: Fn(usize) -> u32>(
     ensures { (f : ℕ → ℕ) → Gives (F.post number_of) tables.now.reading.counts.movements f
         → Bordered tables.now.movements.now half.now.links tables.now.reading.counts.movements (side_number side) f result }
 {
-    let movements = &tables.movements[..tables.reading.counts.movements];
     let mut sums = [0; MAX_LINKS];
-    for (j, &movement) in movements.iter().enumerate() {
+    for (j, &movement) in tables.movements.iter().enumerate() {
         let border = split_tables::is_border(movement, &half.links);
         let link = end_of(movement, side) as usize;
         add_at(border, link, number_of(j), &mut sums);

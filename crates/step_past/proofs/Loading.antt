@@ -11,7 +11,6 @@ use Rattle.base_laws.proofs.Sums.{sum_more}
 use Rattle.model.proofs.Timeline.{past-outflow, timeline-entered-more}
 use Rattle.network_tables.specs.declared.Counts.{Counts}
 use Rattle.network_tables.specs.declared.NetworkTables.{NetworkTables}
-use Rattle.network_tables.specs.declared.Link.{Link}
 use Rattle.network_tables.specs.Fields.{past_size, past_entries_in, standing_in, entered_in, left_in}
 use Rattle.network_tables.specs.Rows.{LineHeld, ReadAgain}
 use Rattle.network_tables.specs.Sums.{Overflow, Summed}
@@ -54,14 +53,11 @@ module _ {tables : NetworkTables} {before : List ℕ} {arrivals₀ : List Arriva
   own-link : (i : ℕ) → i < link_count (lines text) → i < counts.links
   own-link i l = omega (arith, asked.counted.links)
 
-  cut-long : length (take counts.links tables.links.now) ≡ counts.links
-  cut-long = length-take-le counts.links tables.links.now (omega (arith, tables.sized.link-size, asked.counted.few.links))
-
-  module _ {row₀ : List ℕ} (started : Started (take counts.links tables.links.now) before row₀) where
+  module _ {row₀ : List ℕ} (started : Started tables.links.now before row₀) where
     row-start : (i : ℕ) → i < link_count (lines text) → (entered_in row₀ i ≡ standing_in tables.links.now i) × (left_in row₀ i ≡ 0)
     row-start i l =
-        let own : i < length (take counts.links tables.links.now) = omega (arith, cut-long, own-link i l) in
-        (started.stands i own ∙ ap (λ (link : Link). link.standing) (get_or-take counts.links tables.links.now i _ (own-link i l)), started.none_left i own)
+        let own : i < length tables.links.now = omega (arith, tables.sized.link-size, own-link i l) in
+        (started.stands i own, started.none_left i own)
 
     pub past-begin : {arrivals : List Arrival} → Found tables counts.links arrivals → {fields : List ℕ} → length fields ≡ past_size
         → PastTo text counts row₀ row₀ arrivals fields tables.reading.past_at 0
@@ -91,7 +87,7 @@ module _ {tables : NetworkTables} {before : List ℕ} {arrivals₀ : List Arriva
       size-all = inv.size ∙ started.size
 
       kept-all : (k : ℕ) → 2 * counts.links ≤ k → get_or row k 0 ≡ get_or before k 0
-      kept-all k l = inv.kept k l ∙ started.kept k (omega (arith, cut-long))
+      kept-all k l = inv.kept k l ∙ started.kept k (omega (arith, tables.sized.link-size))
 
       module _ (h : m < counts.past) {width : ℕ} (w : width ≡ 1 + 2 * counts.links) {next : ℕ} {after : List ℕ} (read : ReadAgain letter_h width text place fields next after)
           {fit : Option (Unit {0})} {row' : List ℕ} (summed : Summed (take (width - 1) (drop 1 after)) row fit row') where

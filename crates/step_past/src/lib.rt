@@ -96,7 +96,7 @@ fn find_steps(tables: &NetworkTables, arrivals: &mut [Arrival])
     ensures { Found tables.now tables.now.reading.counts.links arrivals.new }
 {
     let counts = tables.reading.counts;
-    for (i, link) in tables.links[..counts.links].iter().enumerate() {
+    for (i, link) in tables.links.iter().enumerate() {
         let step = step_arrivals::arrival_step(tables.times, 0, counts.past, link.travel_time);
         arrivals[i] = Arrival {
             step,
@@ -133,7 +133,7 @@ pub fn load_past(tables: &NetworkTables, row: &mut [u32], arrivals: &mut [Arriva
 {
     let counts = tables.reading.counts;
     let width = counts.past_width();
-    start_row(&tables.links[..counts.links], row);
+    start_row(tables.links, row);
     find_steps(tables, arrivals);
     let mut fields = [0u32; PAST_SIZE];
     let mut place = tables.reading.past_at;

@@ -4,10 +4,9 @@ use Rattle.std.specs.List.{slice_range, sum as list_sum}
 use Rattle.std.proofs.lemmas.List.Sums.{sum_by-cons}
 use Rattle.base_laws.specs.Sum.{sum}
 use Rattle.base_laws.proofs.Sums.{sum-ext}
-use Rattle.network_tables.specs.declared.Link.{Link}
-use Rattle.network_tables.specs.Fields.{link_by, entered_in, left_in}
+use Rattle.network_tables.specs.Fields.{entered_in, left_in}
 use Rattle.step_signals.proofs.Cuts.{length-cut-from, cut-at-from, length-cut, cut-at}
-use Rattle.step_rows.specs.Waiting.{FirstWaits, Offers}
+use Rattle.step_rows.specs.Waiting.{Offers}
 
 -- ---- a sum of a list is that by its places
 sum-first : (n : ℕ) (f : ℕ → ℕ) → sum (suc n) f ≡ f 0 + sum n (λ i. f (suc i))
@@ -42,10 +41,7 @@ held-cut row n h =
     ap (λ k. sum k (λ i. entered_in cut i - left_in cut i)) half
     ∙ sum-ext n _ _ (λ i l. omega (arith, cut-at row (2 * n) (2 * i) 0 (omega arith), cut-at row (2 * n) (2 * i + 1) 0 (omega arith)))
 
--- ---- who waits, by the first n links
-pub first-cut : (links : List Link) (n : ℕ) {waiting : List ℕ} → n ≤ length links → FirstWaits (slice_range links 0 n) (length (slice_range links 0 n)) waiting → FirstWaits links n waiting
-first-cut links n h w = record { size = w.size; starts = λ i l. w.starts i (omega (arith, length-cut links n h)) ∙ ap (λ link. link.waiting) (cut-at links n i (link_by (λ k. 0)) l) }
-
+-- ---- who is at the entries, by the first n links
 pub offers-cut : (waiting : List ℕ) (n : ℕ) {step result : List ℕ} → n ≤ length waiting → Offers (length (slice_range waiting 0 n)) (slice_range waiting 0 n) step result → Offers n waiting step result
 offers-cut waiting n h o = record {
   size = o.size;

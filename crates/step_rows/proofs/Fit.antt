@@ -1,5 +1,5 @@
 -- The tables of a step fit each other, where they hold what the texts say.
-use Rattle.base_laws.proofs.Kit.{ℕ, suc, ◌+◌, ◌*◌, ◌≤◌, ◌<◌, ◌≡◌, List, le_trans, leb-true, arith, length, get_or}
+use Rattle.base_laws.proofs.Kit.{ℕ, suc, ◌+◌, ◌*◌, ◌≤◌, ◌<◌, ◌≡◌, sym, ◌∙◌, List, le_trans, leb-true, arith, length, get_or}
 use Rattle.base_search.specs.Checks.{Hold}
 use Rattle.text_reader.specs.Lines.{Line}
 use Rattle.base_laws.specs.Test.{within}
@@ -49,7 +49,7 @@ module _ {network : List Line} {plan : List Line} {n : ℕ} {counts : Counts} {l
   step-fit room =
       record {
         few = counted.few;
-        links-size = link-table.size;
+        links-size = link-table.size ∙ sym counted.links;
         named = movements-named counted movement-table valid;
         signal-tables = record {
           few = counted.few.signals;

@@ -1,11 +1,11 @@
 -- One movement more is added to a row: what it must find, and what it leaves.
-use Rattle.base_laws.proofs.Kit.{◌≡◌, refl, ap, ◌∙◌, ◌⊎◌, inl, inr, ⊎_elim, Bool, true, false, List, ℕ, suc, ◌+◌, ◌*◌, ◌-◌, ◌≤◌, ◌<◌, add-zero, arith, eqb-true, eqb-false, eq-eqb, ne_eqb, eqb, length, get_or, set, take, cond, length-set, length-take-le, get_or-take, get_or-set_same, get_or-set_other}
+use Rattle.base_laws.proofs.Kit.{◌≡◌, refl, ap, ◌∙◌, ◌⊎◌, inl, inr, ⊎_elim, Bool, true, false, List, ℕ, suc, ◌+◌, ◌*◌, ◌-◌, ◌≤◌, ◌<◌, add-zero, arith, eqb-true, eqb-false, eq-eqb, ne_eqb, eqb, length, get_or, set, length-set, get_or-set_same, get_or-set_other}
 use Rattle.network_tables.specs.declared.Counts.{Counts}
 use Rattle.base_laws.specs.Sum.{sum, only}
 use Rattle.base_laws.proofs.Sums.{sum_more}
 use Rattle.step_rows.specs.Rows.{moved_by, Added, Room}
 use Rattle.step_rows.proofs.Sums.{sum-none, sum-next}
-use Rattle.network_tables.specs.Fields.{movement_by, link_in, row_size, moved_in}
+use Rattle.network_tables.specs.Fields.{link_in, row_size, moved_in}
 use Rattle.network_tables.specs.declared.Movement.{Movement}
 
 same_or_not : (a b : ℕ) → (a ≡ b) ⊎ (a ≡ b → ⊥)
@@ -43,21 +43,6 @@ module _ (counts : Counts) (line : List ℕ) (movements : List Movement) (side i
       → moved_by counts line movements side j i + moved_in counts line j ≤ moved_by counts line movements side counts.movements i
   unfolding part
   moved_up h e = omega (arith, moved-yes e, sum_more part (j + 1) counts.movements (omega arith))
-
--- the movements are the first of their table
-module _ {counts : Counts} {line : List ℕ} {movements : List Movement} {row₀ : List ℕ} (room : Room counts line movements row₀) where
-  length-cut : length (take counts.movements movements) ≡ counts.movements
-  length-cut = length-take-le counts.movements movements (omega (arith, room.named.size, room.few.movements))
-
-  pub within-cut : {j : ℕ} → j < length (take counts.movements movements) → j < counts.movements
-  within-cut h = omega (arith, length-cut)
-
-  pub link-cut : {j : ℕ} (side : ℕ) → j < counts.movements → link_in (take counts.movements movements) side j - 1 ≡ link_in movements side j - 1
-  link-cut {j} side h = ap (λ movement. cond (eqb side 0) movement.from movement.to - 1) (get_or-take counts.movements movements j (movement_by (λ k. 0)) h)
-
-  pub added-end : {j : ℕ} {row : List ℕ} → length (take counts.movements movements) ≤ j → j ≤ length (take counts.movements movements)
-      → Added counts line movements row₀ j row → Added counts line movements row₀ counts.movements row
-  added-end {j} {row} a b was = let e : j ≡ counts.movements = omega (arith, length-cut) in rw e at was
 
 -- t and f are the links, from 0, that movement j enters and leaves
 module _ {counts : Counts} {line : List ℕ} {movements : List Movement} {row₀ : List ℕ} {j : ℕ} {row : List ℕ} (room : Room counts line movements row₀) (less : j < counts.movements)

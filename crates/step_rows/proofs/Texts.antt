@@ -21,7 +21,7 @@ use Rattle.network_tables.specs.declared.Movement.{Movement}
 module _ {network : List Line} {counts : Counts} (counted : CountsHold network counts) where
   -- the links that a valid network's movements name
   pub movements-named : {movements : List Movement} → MovementTable network movements → ValidNetwork network → Named counts movements
-  movements-named {movements} t valid = record { size = t.size; ends = λ j l. ends j (omega arith) }
+  movements-named {movements} t valid = record { size = t.size ∙ sym counted.movements; ends = λ j l. ends j (omega arith) }
     where
       ends : (j : ℕ) → j < movement_count network → Ends counts movements j
       ends j l =

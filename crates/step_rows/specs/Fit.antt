@@ -18,7 +18,7 @@ use Rattle.step_rows.specs.Rows.{Named}
 pub record StepFit (counts : Counts) (links : List Link) (movements : List Movement) (times : List ℕ) (signals : List Signal)
     (plan_line step_line phases asked ledger : List ℕ) (arrivals : List Arrival) (boundary : ℕ) : Type 0 where
   pub few : Few counts
-  pub links-size : length links ≡ max_links
+  pub links-size : length links ≡ counts.links
   pub named : Named counts movements
   pub signal-tables : SignalTables signals counts.signals phases asked (length_in step_line)
   pub line-size : length plan_line ≡ line_size

@@ -3,7 +3,7 @@
 use Rattle.std.specs.Prelude.{◌≡◌, List, [], ◌∷◌, ◌++◌, ℕ, zero, suc, ◌+◌, ◌*◌, ◌≤◌, ◌<◌, eqb, length, get_or}
 use Rattle.text_reader.specs.Lines.{Line}
 use Rattle.base_laws.specs.Sum.{sum, only}
-use Rattle.model.specs.Network.{max_movements, link_count}
+use Rattle.model.specs.Network.{link_count}
 use Rattle.model.specs.Flows.{entered, left}
 use Rattle.network_tables.specs.declared.Counts.{Counts}
 use Rattle.network_tables.specs.declared.Movement.{Movement}
@@ -48,7 +48,7 @@ pub record Ends (counts : Counts) (movements : List Movement) (j : ℕ) : Type 0
 
 -- each movement names two of the links
 pub record Named (counts : Counts) (movements : List Movement) : Type 0 where
-  pub size : length movements ≡ max_movements
+  pub size : length movements ≡ counts.movements
   pub ends : (j : ℕ) → j < counts.movements → Ends counts movements j
 
 -- what the row after a step is made of, and that its numbers fit 32 bits

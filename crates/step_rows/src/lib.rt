@@ -18,8 +18,7 @@ use network_tables::{Counts, Link, Movement, admitted, entered, left, let_out, m
 use step_past::Arrival;
 
 // What a step of a plan is judged by; all tables are lent. `plan_line` has the numbers of its `P` line, `step_line` those of its `S` line, with who waits in each
-// link's demand; `phases` are those that it shows, `asked` those that trams ask; the ledger has the rows up to `boundary`, at which the step begins. Links and movements
-// are whole, with the counts beside them, as in `NetworkTables`.
+// link's demand; `phases` are those that it shows, `asked` those that trams ask; the ledger has the rows up to `boundary`, at which the step begins.
 #[derive(Clone, Copy)]
 pub struct Step<'a> {
     pub counts: Counts,
@@ -62,7 +61,7 @@ fn add_movements(row: &mut [u32], line: &[u32], movements: &[Movement], counts: 
     requires { Room counts line.now movements.now row.old }
     ensures { Added counts line.now movements.now row.old counts.movements row.new }
 {
-    for (j, movement) in movements[..counts.movements].iter().enumerate() {
+    for (j, movement) in movements.iter().enumerate() {
         let volume = moved(line, counts, j);
         let to = 2 * (movement.to as usize - 1);
         let from = 2 * (movement.from as usize - 1) + 1;

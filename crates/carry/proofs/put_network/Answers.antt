@@ -30,12 +30,12 @@ links : (c : After-put_rows-2) → Put c.args.tables.now.reading.counts.links (r
 links c =
     let t = c.args.tables.now in
     let w = c.args.standing.now.waiting.now in
-    links-put c.requires.carry_asked c.requires.tram_table (c.put_rows-2.ensures (λ i. link_row t.links.now w i ∷ []) (λ i none changed h p. link-given t.links.now w t.reading.counts.links i none h changed (search rules)))
+    links-put c.requires.carry_asked c.requires.tram_table (c.put_rows-2.ensures (λ i. link_row t.links.now w i ∷ []) (λ i none changed h p. link-given t.links.now w i none h changed (search rules)))
 
 movements : (c : After-put_rows-3) → Put c.args.tables.now.reading.counts.movements (record_texts letter_m c.args.tables.now.reading.counts.movements (λ j. movement_row (movement_at c.args.tables.now.movements.now j))) c.put_rows-2.new.self c.put_rows-3.new.self
 movements c =
     let t = c.args.tables.now in
-    movements-put c.requires.carry_asked c.requires.tram_table (c.put_rows-3.ensures (λ j. movement_row (movement_at t.movements.now j) ∷ []) (λ j none changed h p. movement-given t.movements.now t.reading.counts.movements j none h changed (search rules)))
+    movements-put c.requires.carry_asked c.requires.tram_table (c.put_rows-3.ensures (λ j. movement_row (movement_at t.movements.now j) ∷ []) (λ j none changed h p. movement-given t.movements.now j none h changed (search rules)))
 
 pub count_row-requires : goal.count_row-requires
 count_row-requires c = counts-asked c.requires.carry_asked c.requires.tram_table (counted (goal.at.count_row-requires c).After-count_rows-left)

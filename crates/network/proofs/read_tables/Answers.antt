@@ -1,6 +1,6 @@
 -- `network::read_tables` meets its contract.
 use Rattle.base_search.proofs.Laws.{passed_on}
-use Rattle.network.proofs.Chain.{counts-stop, signals-asked, signals-stop, links-asked, links-stop, movements-asked, movements-stop, movements-cut, shares-ready, shares-stop, timeline-asked, network-judged}
+use Rattle.network.proofs.Chain.{counts-stop, signals-asked, signals-stop, links-asked, links-stop, movements-asked, movements-stop, links-cut, movements-cut, shares-ready, shares-stop, timeline-asked, network-judged}
 use Rattle.network.proofs.read_tables.Goals as goal
 
 pub returns-in_err-reading : goal.returns-in_err-reading
@@ -24,11 +24,11 @@ read_movements-requires c = movements-asked c.requires c.read_counts.ensures c.i
 pub returns-in_err-reading-4 : goal.returns-in_err-reading-4
 returns-in_err-reading-4 c = rw (passed_on _ _ c.from_residual-in_err-reading-4.ensures.1) (movements-stop c.requires c.read_counts.ensures c.in_ok-reading.was c.read_trams_and_signals.ensures c.in_ok-reading-2.was c.read_links.ensures c.in_ok-reading-3.was c.read_movements.ensures c.in_err-reading-4.was)
 
-pub slice_bounds-check_shares-end : goal.slice_bounds-check_shares-end
-slice_bounds-check_shares-end c = (movements-cut c.requires c.read_counts.ensures c.in_ok-reading.was c.read_trams_and_signals.ensures c.in_ok-reading-2.was c.read_links.ensures c.in_ok-reading-3.was c.read_movements.ensures c.in_ok-reading-4.was).0
+pub slice_bounds-links-end : goal.slice_bounds-links-end
+slice_bounds-links-end c = links-cut c.requires c.read_counts.ensures c.in_ok-reading.was c.read_trams_and_signals.ensures c.in_ok-reading-2.was c.read_links.ensures c.in_ok-reading-3.was c.read_movements.ensures c.in_ok-reading-4.was
 
-pub slice_bounds-check_shares-end-2 : goal.slice_bounds-check_shares-end-2
-slice_bounds-check_shares-end-2 c = (movements-cut c.requires c.read_counts.ensures c.in_ok-reading.was c.read_trams_and_signals.ensures c.in_ok-reading-2.was c.read_links.ensures c.in_ok-reading-3.was c.read_movements.ensures c.in_ok-reading-4.was).1
+pub slice_bounds-movements-end : goal.slice_bounds-movements-end
+slice_bounds-movements-end c = movements-cut c.requires c.read_counts.ensures c.in_ok-reading.was c.read_trams_and_signals.ensures c.in_ok-reading-2.was c.read_links.ensures c.in_ok-reading-3.was c.read_movements.ensures c.in_ok-reading-4.was
 
 pub check_shares-requires : goal.check_shares-requires
 check_shares-requires c = shares-ready c.requires c.read_counts.ensures c.in_ok-reading.was c.read_trams_and_signals.ensures c.in_ok-reading-2.was c.read_links.ensures c.in_ok-reading-3.was c.read_movements.ensures c.in_ok-reading-4.was

@@ -1,5 +1,5 @@
 -- `split_text::put_movements` meets its contract.
-use Rattle.std.proofs.Common.{rules, arith}
+use Rattle.std.proofs.Common.{rules}
 use Rattle.split_text.proofs.Lines.{movement-rows, movement-given, movements-put, movement-ends}
 use Rattle.split_text.proofs.put_movements.Goals as goal
 
@@ -9,7 +9,6 @@ put_rows-requires-clause-asks c = λ k none h. λ a b d e f. movement-ends c.req
 pub returns : goal.returns
 returns c =
     let t = c.args.tables.now in
-    let n = t.reading.counts.movements in
     let half = c.args.half.now in
-    movements-put t.movements.now half n (omega (arith, t.sized.movement-size, t.sized.few.movements))
-    (c.put_rows.ensures (movement-rows t.movements.now half n) (λ j none changed h p. movement-given t.movements.now half n j none h changed (search rules)))
+    movements-put t.movements.now half t.sized.movement-size
+    (c.put_rows.ensures (movement-rows t.movements.now half) (λ j none changed h p. movement-given t.movements.now half j none h changed (search rules)))
