@@ -23,6 +23,7 @@ use Rattle.network_tables.specs.declared.Reading.{Reading}
 use Rattle.network_tables.specs.declared.NetworkTables.{NetworkTables}
 use Rattle.network_tables.specs.declared.Link.{Link}
 use Rattle.network_tables.specs.declared.Movement.{Movement}
+use Rattle.network.specs.declared.Start.{Start}
 use Rattle.network.specs.Loading.{Loaded}
 use Rattle.plan_steps.specs.declared.State.{State}
 use Rattle.plan_steps.specs.Steps as steps
@@ -88,7 +89,7 @@ module _ (network_text plan_text : List ℕ) (b : ℕ) (ledger buffer : List ℕ
       unfolding carry_on carry_ledger carry_buffer
       text-told t = record { told = rw text-judged t.answered; rows = rw within rows; holds = rw text-judged t.holds }
 
-module _ (plan_text : List ℕ) (b : ℕ) (buffer : List ℕ) {tables : NetworkTables} {signals₀ : List Signal} {ledger : List ℕ} (a : StepsAsked tables b signals₀ ledger) where
+module _ (plan_text : List ℕ) (b : ℕ) (buffer : List ℕ) {tables : NetworkTables} {start : Start} {ledger : List ℕ} (a : StepsAsked tables b start ledger) where
   abbrev network_text : List ℕ
   network_text = tables.text.now
 
@@ -103,7 +104,7 @@ module _ (plan_text : List ℕ) (b : ℕ) (buffer : List ℕ) {tables : NetworkT
   first = planned_on network b plan_text
 
   network-holds : Hold (network_checks network)
-  network-holds = a.loaded.holds
+  network-holds = a.loaded.tabled.holds
 
   within-plan : verdict (boundary_checks network b) ≡ Ok tt
   within-plan = boundary-passes network b network-holds a.first a.last
@@ -200,8 +201,8 @@ module _ (plan_text : List ℕ) (b : ℕ) (buffer : List ℕ) {tables : NetworkT
         pub write-asked : length ledger' ≡ length ledger → CarryAsked tables at
         write-asked long =
             record {
-              before = signals₀;
-              loaded = a.loaded;
+              before = start.signals;
+              loaded = a.loaded.tabled;
               signals-size = ap length is-signals ∙ all.signals-at.size;
               waiting-size = ap length is-waiting ∙ all.waiting-at.size;
               within = rw here a.last;

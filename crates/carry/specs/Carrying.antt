@@ -2,15 +2,15 @@
 use Rattle.std.specs.Prelude.{ℕ, suc, ◌*◌, ◌≤◌, ◌<◌, ◌≡◌, List, length, Result}
 use Rattle.text_reader.specs.Lines.{lines}
 use Rattle.model.specs.Network.{link_count, step_count}
-use Rattle.model.specs.declared.Signal.{Signal}
 use Rattle.network_tables.specs.declared.NetworkTables.{NetworkTables}
-use Rattle.network.specs.Loading.{TablesLoaded}
+use Rattle.network.specs.declared.Start.{Start}
+use Rattle.network.specs.Loading.{StartLoaded}
 use Rattle.model_carry.specs.Call.{planned_on, carry_on, carry_ledger, carry_buffer}
 use Rattle.base_search.specs.declared.Refusal.{Refusal}
 
 -- a boundary of the plan, and room for the rows up to it
-pub record StepsAsked (tables : NetworkTables) (b : ℕ) (signals : List Signal) (ledger : List ℕ) : Type 0 where
-  pub loaded : TablesLoaded tables signals
+pub record StepsAsked (tables : NetworkTables) (b : ℕ) (start : Start) (ledger : List ℕ) : Type 0 where
+  pub loaded : StartLoaded tables start
   pub first : 1 ≤ b
   pub last : b < step_count (lines tables.text.now)
   pub room : 2 * suc b * link_count (lines tables.text.now) ≤ length ledger

@@ -13,7 +13,7 @@ ghost use Rattle.model.specs.Table.{letter_g};
 ghost use Rattle.network_tables.specs.Places.{Few};
 ghost use Rattle.network_tables.specs.Fields.{signal_at, past_size, tram_row};
 ghost use Rattle.network_tables.specs.Tables.{TramTable};
-ghost use Rattle.network.specs.Loading.{TablesLoaded};
+ghost use Rattle.network.specs.Loading.{StartLoaded};
 ghost use Rattle.model_carry.specs.Call.{planned_on};
 ghost use Rattle.model_carry.specs.CarriesOn.{CarriedOn};
 ghost use Rattle.model_carry.specs.Part.{signal_numbers};
@@ -25,10 +25,10 @@ ghost use Rattle.carry.specs.Trams.{left_of};
 
 use base_search::{Reason, Refusal, checked};
 use model::{SIGNAL_FIELDS, Signal};
-use network::Room;
+use network::{Room, Start};
 use network_tables::{
-    COUNT_FIELDS, Counts, Link, MAX_LINKS, MAX_SIGNALS, MAX_TRAMS, NetworkTables, PAST_SIZE, Tram,
-    entered_at, left_at, read_again, row_start,
+    COUNT_FIELDS, Counts, Link, MAX_LINKS, MAX_TRAMS, NetworkTables, PAST_SIZE, Tram, entered_at,
+    left_at, read_again, row_start,
 };
 use network_writer::{Output, count_rows};
 
@@ -199,20 +199,20 @@ fn carry_steps(
     tables: &NetworkTables,
     boundary: usize,
     plan: &[u8],
-    signals: &mut [Signal],
+    start: &mut Start,
     ledger: &mut [u32],
     carried: &mut [u8],
 ) -> Result<usize, Refusal>
-    requires { StepsAsked tables.now boundary signals.old ledger.old }
+    requires { StepsAsked tables.now boundary start.old ledger.old }
     ensures { CarryGot tables.now.text.now plan.now boundary ledger.old ledger.new carried.old carried.new result }
 {
     let mut waiting = [0u32; MAX_LINKS];
-    let state = plan_steps::take_steps(plan, tables, boundary, signals, &mut waiting, ledger)?;
+    let state = plan_steps::take_steps(plan, tables, boundary, start, &mut waiting, ledger)?;
     let ended = text_reader::is_end(plan, state.place.plan_at);
     checked(ended, Reason::PlanForm, boundary + 1, 0)?;
     let standing = Standing {
         boundary,
-        signals,
+        signals: &start.signals,
         waiting: &waiting,
         ledger,
     };
@@ -224,11 +224,11 @@ fn carry_from(
     tables: &NetworkTables,
     boundary: usize,
     plan: &[u8],
-    signals: &mut [Signal],
+    start: &mut Start,
     ledger: &mut [u32],
     carried: &mut [u8],
 ) -> Result<usize, Refusal>
-    requires { TablesLoaded tables.now signals.old }
+    requires { StartLoaded tables.now start.old }
     ensures { CarryGot tables.now.text.now plan.now boundary ledger.old ledger.new carried.old carried.new result }
 {
     let counts = tables.reading.counts;
@@ -238,7 +238,7 @@ fn carry_from(
     if ledger.len() < row_start(boundary + 1, counts.links) {
         return Err(Reason::Ledger.refusal(0, 0));
     }
-    carry_steps(tables, boundary, plan, signals, ledger, carried)
+    carry_steps(tables, boundary, plan, start, ledger, carried)
 }
 
 // Carry on from a boundary: judges a plan of as many lines on the network cut to as many steps, and writes the network text from the boundary on. Refusals: those
@@ -253,15 +253,15 @@ pub fn carry_on(
     ensures carried_on { CarriedOn (lines network.now) (planned_on (lines network.now) boundary plan.now) boundary ledger.old ledger.new carried.old carried.new result }
     ensures padding_ignored { PaddingIgnored network.now (λ padded_network. PaddingIgnored plan.now (λ padded_plan. CarryGot padded_network padded_plan boundary ledger.old ledger.new carried.old carried.new result)) }
 {
-    let mut signals = [Signal::default(); MAX_SIGNALS];
+    let mut start = Start::default();
     let mut room = Room::default();
-    let tables = network::read_network(network, &mut signals, &mut room)?;
+    let tables = network::read_start(network, &mut start, &mut room)?;
     // Every `u32` fits a `usize`: the cast loses nothing.
     carry_from(
         &tables,
         boundary as usize,
         plan,
-        &mut signals,
+        &mut start,
         ledger,
         carried,
     )

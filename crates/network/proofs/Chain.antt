@@ -12,6 +12,7 @@ use Rattle.network_tables.specs.declared.Movement.{Movement}
 use Rattle.network_tables.specs.declared.NetworkTables.{NetworkTables}
 use Rattle.network_tables.specs.declared.Reading.{Reading}
 use Rattle.network_tables.specs.Blocks.{block_checks, link_block, movement_block}
+use Rattle.step_past.specs.declared.Arrival.{Arrival}
 use Rattle.network_tables.specs.Tables.{Judged, LinkTable}
 use Rattle.network_tables.proofs.Stages.{verdict-passed, verdict-refused}
 use Rattle.network_signals.specs.Counts.{CountsHeld}
@@ -19,7 +20,8 @@ use Rattle.network_signals.specs.Stages.{SignalsHeld}
 use Rattle.network_links.specs.Movements.{share_checks_in}
 use Rattle.network_links.specs.Stages.{LinksAsked, LinksHeld, MovementsAsked, MovementsHeld, SharesAsked}
 use Rattle.network_links.proofs.Movements.{shares-asked, shares-checked}
-use Rattle.network.specs.Loading.{first_checks, FirstAsked, end_checks, timeline_checks, TablesJudged, TimelineAsked, TimelineHeld, Rooms, LoadedFrom}
+use Rattle.network.specs.declared.Start.{Start}
+use Rattle.network.specs.Loading.{first_checks, FirstAsked, end_checks, timeline_checks, TablesJudged, TimelineAsked, TimelineHeld, Rooms, start_of, LoadedFrom, StartedFrom}
 use Rattle.network.proofs.Left.{on, stop, tables-refused}
 use Rattle.network.proofs.First.{first-joined}
 use Rattle.network.proofs.Timeline.{link-limits}
@@ -46,8 +48,18 @@ module _ (text : List ℕ) where
   unfolding network_checks end_checks
   whole = first-joined (lines text) (count_checks (lines text)) from_links
 
+-- ---- without the start
+pub without-start : {text : List ℕ} {start : Start} {read : Result NetworkTables Refusal} → TablesJudged (network_checks (lines text)) (StartedFrom text start) read
+    → TablesJudged (network_checks (lines text)) (LoadedFrom text start.signals) read
+without-start j =
+    record {
+      passed = j.passed;
+      refused = j.refused;
+      held = λ tables e. let held = j.held tables e in record { same-text = held.same-text; loaded = held.loaded.tabled };
+    }
+
 -- ---- the stages
-module _ {text : List ℕ} {signals₀ : List Signal} {links₀ : List Link} {movements₀ : List Movement} {times₀ : List ℕ} (room : Rooms signals₀ links₀ movements₀ times₀)
+module _ {text : List ℕ} {signals₀ : List Signal} {links₀ : List Link} {movements₀ : List Movement} {times₀ row₀ : List ℕ} {arrivals₀ : List Arrival} (room : Rooms signals₀ links₀ movements₀ times₀ row₀ arrivals₀)
     {counts : Result Reading Refusal} (j : Judged (count_checks (lines text)) (CountsHeld text) counts) where
   pub counts-stop : {Held : NetworkTables → Type 0} {r : Refusal} → counts ≡ Err r → TablesJudged (network_checks (lines text)) Held (Err r)
   counts-stop e = tables-refused (stop (network_checks (lines text)) _ (from_signals text) (whole text) (verdict-refused j e))
@@ -110,7 +122,7 @@ module _ {text : List ℕ} {signals₀ : List Signal} {links₀ : List Link} {mo
                   shares-stop e = tables-refused (stop (network_checks (lines text)) _ (timeline_checks (lines text)) left₄ (checked ∙ e))
 
                   module _ (e₅ : shared ≡ Ok tt) where
-                    pub timeline-asked : TimelineAsked text at_shares (take at_shares.counts.links links) (take at_shares.counts.movements movements) times₀
+                    pub timeline-asked : TimelineAsked text at_shares (take at_shares.counts.links links) (take at_shares.counts.movements movements) times₀ row₀ arrivals₀
                     timeline-asked =
                         record {
                           reached = (j₃.held _ e₄).reached;
@@ -118,13 +130,15 @@ module _ {text : List ℕ} {signals₀ : List Signal} {links₀ : List Link} {mo
                           movement-size = (j₃.held _ e₄).table.size;
                           limits = link-limits (lines text) (verdict-passed j₂ e₃);
                           room = room.time-room;
+                          row-room = room.row-room;
+                          arrival-room = room.arrival-room;
                         }
 
                     left₅ : Left text (timeline_checks (lines text))
                     left₅ = on (network_checks (lines text)) _ (timeline_checks (lines text)) left₄ (checked ∙ e₅)
 
-                    module _ {timed : Result NetworkTables Refusal} (j₅ : TablesJudged (timeline_checks (lines text)) (TimelineHeld text (take at_shares.counts.links links) (take at_shares.counts.movements movements)) timed) where
-                      pub network-judged : TablesJudged (network_checks (lines text)) (LoadedFrom text signals) timed
+                    module _ {row : List ℕ} {arrivals : List Arrival} {timed : Result NetworkTables Refusal} (j₅ : TablesJudged (timeline_checks (lines text)) (TimelineHeld text (take at_shares.counts.links links) (take at_shares.counts.movements movements) row arrivals) timed) where
+                      pub network-judged : TablesJudged (network_checks (lines text)) (StartedFrom text (start_of signals row arrivals)) timed
                       network-judged =
                           record {
                             passed = λ tables e. left₅ ∙ j₅.passed tables e;
@@ -133,20 +147,23 @@ module _ {text : List ℕ} {signals₀ : List Signal} {links₀ : List Link} {mo
                                 let held = j₅.held tables e in
                                 record {
                                   same-text = held.same-text;
-                                  loaded =
-                                      rw (held.same-text, held.same-links, held.same-movements)
-                                      (record {
-                                        counted = held.counted;
-                                        trams-start = held.trams-start;
-                                        signals-start = held.signals-start;
-                                        past-start = held.past-start;
-                                        steps-start = held.steps-start;
-                                        signal-table = (j₁.held _ e₂).table;
-                                        few-phases = (j₁.held _ e₂).few;
-                                        link-table = link-table;
-                                        movement-table = (j₃.held _ e₄).table;
-                                        time-table = held.time-table;
-                                        holds = hold-of-passes (network_checks (lines text)) (left₅ ∙ j₅.passed tables e);
-                                      });
+                                  loaded = record {
+                                    past-held = rw held.same-text held.past-held;
+                                    tabled =
+                                        rw (held.same-text, held.same-links, held.same-movements)
+                                        (record {
+                                          counted = held.counted;
+                                          trams-start = held.trams-start;
+                                          signals-start = held.signals-start;
+                                          past-start = held.past-start;
+                                          steps-start = held.steps-start;
+                                          signal-table = (j₁.held _ e₂).table;
+                                          few-phases = (j₁.held _ e₂).few;
+                                          link-table = link-table;
+                                          movement-table = (j₃.held _ e₄).table;
+                                          time-table = held.time-table;
+                                          holds = hold-of-passes (network_checks (lines text)) (left₅ ∙ j₅.passed tables e);
+                                        });
+                                  };
                                 };
                           }

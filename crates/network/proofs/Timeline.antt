@@ -18,8 +18,9 @@ use Rattle.network_tables.specs.Tables.{Judged}
 use Rattle.network_tables.proofs.Stages.{verdict-passed, verdict-refused}
 use Rattle.step_arrivals.specs.Timed.{valid_lengths}
 use Rattle.step_arrivals.proofs.Timed.{timed-table}
+use Rattle.step_past.specs.declared.Arrival.{Arrival}
 use Rattle.step_past.specs.Curves.{PastForms}
-use Rattle.network_past.specs.Past.{FormsHeld, past_end_checks, EndAsked as PastEndAsked}
+use Rattle.network_past.specs.Past.{FormsHeld, past_end_checks, EndAsked as PastEndAsked, PastHeld}
 use Rattle.network_steps.specs.Steps.{StepsAsked, StepsHeld}
 use Rattle.network.specs.Loading.{end_checks, EndAsked, TablesJudged, timeline_checks, TimelineAsked, TimelineHeld}
 use Rattle.network.proofs.Left.{on, stop, tables-refused, tables-passed}
@@ -38,7 +39,7 @@ unfolding Hold past_checks
 past-forms network e m l = hold-of-passes (block_checks (past_block network)) e m l
 
 -- ---- the stages
-module _ {text : List ℕ} {reading : Reading} {links : List Link} {movements : List Movement} {times₀ : List ℕ} (asked : TimelineAsked text reading links movements times₀) where
+module _ {text : List ℕ} {reading : Reading} {links : List Link} {movements : List Movement} {times₀ row₀ : List ℕ} {arrivals₀ : List Arrival} (asked : TimelineAsked text reading links movements times₀ row₀ arrivals₀) where
   abbrev from_end : Checks
   from_end = end_checks (lines text) then past_end_checks (lines text)
 
@@ -88,7 +89,7 @@ module _ {text : List ℕ} {reading : Reading} {links : List Link} {movements : 
             end-stop e = tables-refused (stop (timeline_checks (lines text)) _ (past_end_checks (lines text)) left₂ (sym told ∙ e))
 
             module _ (e₃ : ended ≡ Ok tt) where
-              pub past-asked : (tables : NetworkTables) → tables.text.now ≡ text → tables.reading ≡ at_end → tables.links.now ≡ links → tables.times.now ≡ times' → PastEndAsked tables demands'
+              pub past-asked : (tables : NetworkTables) → tables.text.now ≡ text → tables.reading ≡ at_end → tables.links.now ≡ links → tables.times.now ≡ times' → PastEndAsked tables demands' row₀ arrivals₀
               past-asked tables x r l t =
                   record {
                     counted = rw (x, r) held.reached.counted;
@@ -100,6 +101,8 @@ module _ {text : List ℕ} {reading : Reading} {links : List Link} {movements : 
                     timed-all = rw (x, r, t) held.timed-all;
                     demand-size = held.demand-room;
                     demanded = rw x held.demanded;
+                    row-room = asked.row-room;
+                    arrival-room = asked.arrival-room;
                   }
 
               -- a past that is good is timed
@@ -114,9 +117,9 @@ module _ {text : List ℕ} {reading : Reading} {links : List Link} {movements : 
                 pub past-stop : {Held : NetworkTables → Type 0} {r : Refusal} → said ≡ Err r → TablesJudged (timeline_checks (lines text)) Held (Err r)
                 past-stop e = tables-refused (left₃ ∙ e)
 
-                pub timeline-judged : said ≡ Ok tt → (tables : NetworkTables) → tables.text.now ≡ text → tables.reading ≡ at_end → tables.links.now ≡ links → tables.movements.now ≡ movements
-                    → tables.times.now ≡ times' → TablesJudged (timeline_checks (lines text)) (TimelineHeld text links movements) (Ok tables)
-                timeline-judged e tables x r l m t =
+                pub timeline-judged : said ≡ Ok tt → {row : List ℕ} {arrivals : List Arrival} → PastHeld text row arrivals → (tables : NetworkTables) → tables.text.now ≡ text → tables.reading ≡ at_end → tables.links.now ≡ links → tables.movements.now ≡ movements
+                    → tables.times.now ≡ times' → TablesJudged (timeline_checks (lines text)) (TimelineHeld text links movements row arrivals) (Ok tables)
+                timeline-judged e past-held tables x r l m t =
                     tables-passed (left₃ ∙ e)
                     (record {
                       same-text = x;
@@ -127,5 +130,6 @@ module _ {text : List ℕ} {reading : Reading} {links : List Link} {movements : 
                       signals-start = rw r held.reached.signals-start;
                       past-start = rw r held.past-start;
                       steps-start = rw r held.steps-start;
+                      past-held = past-held;
                       time-table = rw t (timed-table (rw (timed (sym past-told ∙ e)) at held.timed-all) (unfold on_timeline in omega arith));
                     })

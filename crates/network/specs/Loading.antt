@@ -12,9 +12,11 @@ use Rattle.network_tables.specs.Blocks.{block_checks, tram_block, signal_block, 
 use Rattle.network_tables.specs.declared.Link.{Link}
 use Rattle.network_tables.specs.declared.Movement.{Movement}
 use Rattle.network_tables.specs.declared.NetworkTables.{NetworkTables}
-use Rattle.network_tables.specs.Fields.{time_table_size}
+use Rattle.network_tables.specs.Fields.{time_table_size, row_size}
 use Rattle.network_tables.specs.Tables.{Reached, CountsHold, SignalTable, FewPhases, LinkTable, MovementTable, TimeTable}
-use Rattle.network_past.specs.Past.{past_end_checks}
+use Rattle.step_past.specs.declared.Arrival.{Arrival}
+use Rattle.network_past.specs.Past.{past_end_checks, PastHeld}
+use Rattle.network.specs.declared.Start.{Start}
 
 -- the `T` and the `G` lines, and the phases of the `T` lines
 abbrev pub first_checks : List Line → Checks
@@ -41,12 +43,14 @@ abbrev pub timeline_checks : List Line → Checks
 timeline_checks network = block_checks (past_block network) then block_checks (step_block network) then end_checks network then past_end_checks network
 
 -- the text after the `M` lines, whose links have passed
-pub record TimelineAsked (text : List ℕ) (reading : Reading) (links : List Link) (movements : List Movement) (times : List ℕ) : Type 0 where
+pub record TimelineAsked (text : List ℕ) (reading : Reading) (links : List Link) (movements : List Movement) (times row : List ℕ) (arrivals : List Arrival) : Type 0 where
   pub reached : Reached text (timeline_line (lines text) 0) reading
   pub link-table : LinkTable (lines text) links
   pub movement-size : length movements ≡ movement_count (lines text)
   pub limits : (i : ℕ) → i < link_count (lines text) → (capacity (lines text) i ≤ 2_000_000_000) × ((standing (lines text) i ≤ capacity (lines text) i) × (1 ≤ travel_time (lines text) i))
   pub room : length times ≡ time_table_size
+  pub row-room : length row ≡ row_size
+  pub arrival-room : length arrivals ≡ max_links
 
 -- What reading into tables promises: what they hold where the checks pass, and else the first that is broken.
 pub record TablesJudged (checks : Checks) (Held : NetworkTables → Type 0) (result : Result NetworkTables Refusal) : Type 0 where
@@ -54,8 +58,8 @@ pub record TablesJudged (checks : Checks) (Held : NetworkTables → Type 0) (res
   pub held : (tables : NetworkTables) → result ≡ Ok tables → Held tables
   pub refused : (r : Refusal) → result ≡ Err r → verdict checks ≡ Err r
 
--- the whole text has passed, and stands in the tables with its links and its movements
-pub record TimelineHeld (text : List ℕ) (links : List Link) (movements : List Movement) (tables : NetworkTables) : Type 0 where
+-- the whole text has passed, and stands in the tables with its links and its movements, and what its past gives is kept
+pub record TimelineHeld (text : List ℕ) (links : List Link) (movements : List Movement) (row : List ℕ) (arrivals : List Arrival) (tables : NetworkTables) : Type 0 where
   pub same-text : tables.text.now ≡ text
   pub same-links : tables.links.now ≡ links
   pub same-movements : tables.movements.now ≡ movements
@@ -65,13 +69,16 @@ pub record TimelineHeld (text : List ℕ) (links : List Link) (movements : List 
   pub past-start : Starts text tables.reading.past_at (timeline_line (lines text) 0)
   pub steps-start : Starts text tables.reading.steps_at (step_line (lines text) 0)
   pub time-table : TimeTable (lines text) tables.times.now
+  pub past-held : PastHeld text row arrivals
 
 -- the room of the tables of the largest network
-pub record Rooms (signals : List Signal) (links : List Link) (movements : List Movement) (times : List ℕ) : Type 0 where
+pub record Rooms (signals : List Signal) (links : List Link) (movements : List Movement) (times row : List ℕ) (arrivals : List Arrival) : Type 0 where
   pub signal-room : length signals ≡ max_signals
   pub link-room : length links ≡ max_links
   pub movement-room : length movements ≡ max_movements
   pub time-room : length times ≡ time_table_size
+  pub row-room : length row ≡ row_size
+  pub arrival-room : length arrivals ≡ max_links
 
 -- a network that has passed: its counts, the places where its `T`, its `G`, its `H` and its `S` lines start, and its tables, with the signals before the plan
 pub record Loaded (text : List ℕ) (signals : List Signal) (links : List Link) (movements : List Movement) (times : List ℕ) (reading : Reading) : Type 0 where
@@ -91,7 +98,20 @@ pub record Loaded (text : List ℕ) (signals : List Signal) (links : List Link) 
 abbrev pub TablesLoaded : NetworkTables → List Signal → Type 0
 TablesLoaded tables signals = Loaded tables.text.now signals tables.links.now tables.movements.now tables.times.now tables.reading
 
--- the tables are those of this text
+-- tables of a network that has passed, with how it stands at the start: the signals before the plan, row 0, and what each link waits for
+pub record StartLoaded (tables : NetworkTables) (start : Start) : Type 0 where
+  pub tabled : TablesLoaded tables start.signals
+  pub past-held : PastHeld tables.text.now start.row start.arrivals
+
+abbrev pub start_of : List Signal → List ℕ → List Arrival → Start
+start_of signals row arrivals = record { signals = signals; row = row; arrivals = arrivals }
+
+-- the tables are those of this text, with its signals ..
 pub record LoadedFrom (text : List ℕ) (signals : List Signal) (tables : NetworkTables) : Type 0 where
   pub same-text : tables.text.now ≡ text
   pub loaded : TablesLoaded tables signals
+
+-- .. or with how it stands at the start
+pub record StartedFrom (text : List ℕ) (start : Start) (tables : NetworkTables) : Type 0 where
+  pub same-text : tables.text.now ≡ text
+  pub loaded : StartLoaded tables start

@@ -11,17 +11,26 @@ ghost use Rattle.model.specs.Calls.{check_network};
 ghost use Rattle.model.specs.Guarantees.{NetworkPromises};
 ghost use Rattle.network_tables.specs.Tables.{Judged};
 ghost use Rattle.network_signals.specs.Stages.{SignalsHeld};
-ghost use Rattle.network.specs.Loading.{first_checks, FirstAsked, end_checks, EndAsked, TablesJudged, timeline_checks, TimelineAsked, TimelineHeld, Rooms, LoadedFrom};
+ghost use Rattle.network.specs.Loading.{first_checks, FirstAsked, end_checks, EndAsked, TablesJudged, timeline_checks, TimelineAsked, TimelineHeld, Rooms, start_of, LoadedFrom, StartedFrom};
 ghost use Rattle.network.specs.Counting.{count_network, CountPromises};
 
 use base_search::{Reason, Refusal, checked};
 use model::Signal;
 use network_tables::{
     Counts, Link, MAX_LINKS, MAX_MOVEMENTS, MAX_SIGNALS, MAX_TRAMS, Movement, NetworkTables,
-    Reading, TIME_TABLE_SIZE, Tram,
+    ROW_SIZE, Reading, TIME_TABLE_SIZE, Tram,
 };
+use step_past::Arrival;
 
-// The room for what a network's reading gives but for its signals: for that of the largest network, since there is no heap.
+// How a network stands at boundary 0, before a plan: its signals, row 0 of the ledger, and what each link waits for. Steps move the signals and the arrivals on.
+#[derive(Clone, Copy, Default)]
+pub struct Start {
+    pub signals: [Signal; MAX_SIGNALS],
+    pub row: [u32; ROW_SIZE],
+    pub arrivals: [Arrival; MAX_LINKS],
+}
+
+// The room for what else a network's reading gives: for that of the largest network, since there is no heap.
 #[derive(Clone, Copy, Default)]
 pub struct Room {
     links: [Link; MAX_LINKS],
@@ -57,16 +66,18 @@ fn read_trams_and_signals(
     Ok(reading)
 }
 
-// The `H` and the `S` lines, the end of the text and, last of all, what the past must keep (30).
+// The `H` and the `S` lines, the end of the text and, last of all, what the past must keep (30), with what it gives at boundary 0.
 fn read_timeline<'a>(
     text: &'a [u8],
     reading: Reading,
     links: &'a [Link],
     movements: &'a [Movement],
     times: &'a mut [u32],
+    row: &mut [u32],
+    arrivals: &mut [Arrival],
 ) -> Result<NetworkTables<'a>, Refusal>
-    requires { TimelineAsked text.now reading links.now movements.now times.old }
-    ensures { TablesJudged (timeline_checks (lines text.now)) (TimelineHeld text.now links.now movements.now) result }
+    requires { TimelineAsked text.now reading links.now movements.now times.old row.old arrivals.old }
+    ensures { TablesJudged (timeline_checks (lines text.now)) (TimelineHeld text.now links.now movements.now row.new arrivals.new) result }
 {
     let mut demands = [0u32; MAX_LINKS];
     let reading = network_past::read_past(text, reading, times)?;
@@ -79,20 +90,22 @@ fn read_timeline<'a>(
         movements,
         times,
     };
-    network_past::check_past(&tables, &demands)?;
+    network_past::check_past(&tables, &demands, row, arrivals)?;
     Ok(tables)
 }
 
-// Reads a network into four tables, and judges it, in the order of its lines.
+// Reads a network into four tables, row 0 and what each link waits for, and judges it, in the order of its lines.
 fn read_tables<'a>(
     text: &'a [u8],
     signals: &mut [Signal],
     links: &'a mut [Link],
     movements: &'a mut [Movement],
     times: &'a mut [u32],
+    row: &mut [u32],
+    arrivals: &mut [Arrival],
 ) -> Result<NetworkTables<'a>, Refusal>
-    requires { Rooms signals.old links.old movements.old times.old }
-    ensures { TablesJudged (network_checks (lines text.now)) (LoadedFrom text.now signals.new) result }
+    requires { Rooms signals.old links.old movements.old times.old row.old arrivals.old }
+    ensures { TablesJudged (network_checks (lines text.now)) (StartedFrom text.now (start_of signals.new row.new arrivals.new)) result }
 {
     let reading = network_signals::read_counts(text)?;
     let reading = read_trams_and_signals(text, reading, signals)?;
@@ -103,10 +116,11 @@ fn read_tables<'a>(
     let links = &links[..counts.links];
     let movements = &movements[..counts.movements];
     network_links::check_shares(movements, counts)?;
-    read_timeline(text, reading, links, movements, times)
+    read_timeline(text, reading, links, movements, times, row, arrivals)
 }
 
 // Reads a network into tables of its signals, its links, its movements and the time of each boundary of the timeline, and judges it: refusals 1 to 6, 28 and 30.
+// For calls that judge no plan: what the past gives at the start takes no stack of theirs.
 pub fn read_network<'a>(
     text: &'a [u8],
     signals: &mut [Signal; MAX_SIGNALS],
@@ -114,12 +128,43 @@ pub fn read_network<'a>(
 ) -> Result<NetworkTables<'a>, Refusal>
     ensures { TablesJudged (network_checks (lines text.now)) (LoadedFrom text.now signals.new) result }
 {
+    let mut row = [0u32; ROW_SIZE];
+    let mut arrivals = [Arrival::default(); MAX_LINKS];
     let Room {
         links,
         movements,
         times,
     } = room;
-    read_tables(text, signals, links, movements, times)
+    read_tables(
+        text,
+        signals,
+        links,
+        movements,
+        times,
+        &mut row,
+        &mut arrivals,
+    )
+}
+
+// The same, with how the network stands at the start: for calls that judge plans.
+pub fn read_start<'a>(
+    text: &'a [u8],
+    start: &mut Start,
+    room: &'a mut Room,
+) -> Result<NetworkTables<'a>, Refusal>
+    ensures { TablesJudged (network_checks (lines text.now)) (StartedFrom text.now start.new) result }
+{
+    let Start {
+        signals,
+        row,
+        arrivals,
+    } = start;
+    let Room {
+        links,
+        movements,
+        times,
+    } = room;
+    read_tables(text, signals, links, movements, times, row, arrivals)
 }
 
 // Counts what a valid network has: refusals 1 to 6, 28 and 30.

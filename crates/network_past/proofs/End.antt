@@ -1,9 +1,9 @@
 -- 30 after all lines.
-use Rattle.base_laws.proofs.Kit.{ℕ, ◌+◌, ◌*◌, ◌≤◌, ◌<◌, ◌≡◌, refl, sym, ap, ◌∙◌, Bool, true, false, List, [], arith, leb-true, length}
+use Rattle.base_laws.proofs.Kit.{ℕ, ◌+◌, ◌*◌, ◌≤◌, ◌<◌, ◌≡◌, refl, sym, ap, ◌∙◌, Bool, true, false, List, [], arith, leb-true}
 use Rattle.text_reader.specs.Lines.{Line, lines}
 use Rattle.base_laws.specs.Sum.{sum}
 use Rattle.base_laws.specs.Test.{◌and◌, every}
-use Rattle.model.specs.Network.{max_links, link_count, past_count, step_count, on_timeline, timeline_length, past_entries}
+use Rattle.model.specs.Network.{link_count, past_count, step_count, on_timeline, timeline_length, past_entries}
 use Rattle.model.specs.Flows.{timeline_entered, timeline_left, entered, left, has_arrived, offered}
 use Rattle.model.specs.Rules.{valid_past_of, valid_past}
 use Rattle.base_laws.proofs.Tests.{and_left, and_right, every-at, every-same}
@@ -12,7 +12,6 @@ use Rattle.model.proofs.Times.{arrival-step-le}
 use Rattle.model.proofs.Flow.{arrived-entered}
 use Rattle.network_tables.specs.declared.NetworkTables.{NetworkTables}
 use Rattle.network_tables.specs.declared.Reading.{Reading}
-use Rattle.network_tables.specs.Fields.{row_size}
 use Rattle.network_tables.specs.Tables.{TimeTable}
 use Rattle.network_tables.proofs.Tables.{travel-time-at}
 use Rattle.step_arrivals.specs.Arrivals.{Rising}
@@ -21,7 +20,7 @@ use Rattle.step_arrivals.proofs.Arrivals.{cursor-at}
 use Rattle.step_arrivals.proofs.Timed.{timed-table, timed-rise}
 use Rattle.step_past.specs.declared.Arrival.{Arrival}
 use Rattle.step_past.specs.Curves.{past_entered, past_left, PastAsked, PastOverflows, PastLoaded}
-use Rattle.network_past.specs.Past.{valid_past_in, valid_links_in, LinksAsked, EndAsked}
+use Rattle.network_past.specs.Past.{valid_past_in, valid_links_in, LinksAsked, EndAsked, PastHeld}
 use Rattle.network_past.proofs.Links.{valid-is}
 use Rattle.std.specs.Prelude.{Option, Some, None, is_some}
 
@@ -35,7 +34,7 @@ some-of None e = let z : ◌≡◌ {A = ℕ} 0 1 = cc in absurd (omega arith)
 some-of (Some tt) e = refl
 
 -- ---- 30
-module _ {tables : NetworkTables} {demands : List ℕ} (asked : EndAsked tables demands) where
+module _ {tables : NetworkTables} {demands row₀ : List ℕ} {arrivals₀ : List Arrival} (asked : EndAsked tables demands row₀ arrivals₀) where
   abbrev net : List Line
   net = lines tables.text.now
 
@@ -92,8 +91,8 @@ module _ {tables : NetworkTables} {demands : List ℕ} (asked : EndAsked tables 
           small = λ k l. rising.small k (omega arith);
         }
 
-    pub past-asked : {row : List ℕ} → length row ≡ row_size → {arrivals : List Arrival} → length arrivals ≡ max_links → PastAsked tables row arrivals
-    past-asked r a =
+    pub past-asked : PastAsked tables row₀ arrivals₀
+    past-asked =
         record {
           counted = asked.counted;
           starts = asked.past-start;
@@ -102,11 +101,11 @@ module _ {tables : NetworkTables} {demands : List ℕ} (asked : EndAsked tables 
           time-table = time-table;
           cursors = λ i l. let l' : i < link_count net = omega (arith, asked.counted.links) in
               cursor-at rising (omega (arith, asked.counted.past)) (omega (arith, some)) (omega (arith, travel-time-at asked.link-table i l', (asked.limits i l').1.1)) (omega arith);
-          row_room = omega (arith, asked.counted.few.links);
-          size = a;
+          row_room = omega (arith, asked.counted.few.links, asked.row-room);
+          size = asked.arrival-room;
         }
 
-    module _ {row₀ row : List ℕ} {arrivals : List Arrival} {fit : Option (Unit {0})} (loaded : PastLoaded tables row₀ fit row arrivals) where
+    module _ {row : List ℕ} {arrivals : List Arrival} {fit : Option (Unit {0})} (loaded : PastLoaded tables row₀ fit row arrivals) where
       -- a number of row 0 is too large: then so is what entered, or more left than entered
       broken : PastOverflows net → every (link_count net) (valid_past_of net) ≡ true → ⊥
       unfolding valid_past_of
@@ -129,11 +128,20 @@ module _ {tables : NetworkTables} {demands : List ℕ} (asked : EndAsked tables 
           by false false e = refl
 
       module _ (n : is_some fit ≡ true) where
-        pub links-asked : length row ≡ row_size → LinksAsked tables demands row arrivals
-        links-asked r =
+        pub past-held : PastHeld tables.text.now row arrivals
+        past-held =
+            record {
+              row-size = loaded.size ∙ asked.row-room;
+              row-held = loaded.row-held (some-of fit n);
+              arrivals-at = loaded.arrivals-at;
+              curves-at = loaded.curves-at (some-of fit n);
+            }
+
+        pub links-asked : LinksAsked tables demands row arrivals
+        links-asked =
             record {
               demand-size = asked.demand-size;
-              row-room = r;
+              row-room = loaded.size ∙ asked.row-room;
               arrival-size = loaded.arrivals-at.size;
               rising = rising-to (reading.counts.past + 1) (omega (arith, asked.counted.past, some));
               early = λ i l. let l' : i < link_count net = omega (arith, asked.counted.links) in
@@ -145,5 +153,5 @@ module _ {tables : NetworkTables} {demands : List ℕ} (asked : EndAsked tables 
         past-valid =
             ap (λ n. every n (valid_past_in tables demands row arrivals)) asked.counted.links
             ∙ every-same (link_count net) _ _
-            (λ i l. valid-is tables asked.counted demands asked.link-table time-table first (loaded.row-held (some-of fit n)) loaded.arrivals-at (loaded.curves-at (some-of fit n)) asked.demanded i l)
+            (λ i l. valid-is tables asked.counted demands asked.link-table time-table first past-held.row-held past-held.arrivals-at past-held.curves-at asked.demanded i l)
             ∙ sym (past_is ∙ rw is-timed refl)

@@ -14,7 +14,7 @@ use Rattle.network_tables.specs.Tables.{CountsHold, LinkTable, Reached}
 use Rattle.step_arrivals.specs.Arrivals.{seconds_in, elapsed_in, scaled_in, Rising}
 use Rattle.step_arrivals.specs.Timed.{valid_lengths, TimedTo}
 use Rattle.step_past.specs.declared.Arrival.{Arrival}
-use Rattle.step_past.specs.Curves.{PastForms, arrival_at}
+use Rattle.step_past.specs.Curves.{PastForms, arrival_at, PastRow, ArrivalTable, CurvesAt}
 
 -- ---- the forms
 pub record FormsAsked (text : List ℕ) (reading : Reading) (times : List ℕ) : Type 0 where
@@ -58,8 +58,8 @@ module _ (tables : NetworkTables) (demands row : List ℕ) (arrivals : List Arri
 abbrev pub past_end_checks : List Line → Checks
 past_end_checks network = check 30 0 0 (valid_past network)
 
--- all lines have passed
-pub record EndAsked (tables : NetworkTables) (demands : List ℕ) : Type 0 where
+-- all lines have passed, and there is room for row 0 and for what each link waits for
+pub record EndAsked (tables : NetworkTables) (demands row : List ℕ) (arrivals : List Arrival) : Type 0 where
   pub counted : CountsHold (lines tables.text.now) tables.reading.counts
   pub past-start : Starts tables.text.now tables.reading.past_at (timeline_line (lines tables.text.now) 0)
   pub forms : PastForms (lines tables.text.now)
@@ -69,3 +69,12 @@ pub record EndAsked (tables : NetworkTables) (demands : List ℕ) : Type 0 where
   pub timed-all : TimedTo (lines tables.text.now) tables.reading.timed (past_count (lines tables.text.now) + step_count (lines tables.text.now)) tables.times.now
   pub demand-size : length demands ≡ max_links
   pub demanded : (i : ℕ) → i < link_count (lines tables.text.now) → get_or demands i 0 ≡ sum (step_count (lines tables.text.now)) (λ n. demand (lines tables.text.now) n i)
+  pub row-room : length row ≡ row_size
+  pub arrival-room : length arrivals ≡ max_links
+
+-- what the `H` lines say of boundary 0: row 0, and what each link waits for
+pub record PastHeld (text row : List ℕ) (arrivals : List Arrival) : Type 0 where
+  pub row-size : length row ≡ row_size
+  pub row-held : PastRow (lines text) (past_count (lines text)) row
+  pub arrivals-at : ArrivalTable (lines text) 0 arrivals
+  pub curves-at : CurvesAt text arrivals

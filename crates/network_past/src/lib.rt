@@ -1,16 +1,16 @@
 // The `H` lines of a network text: their form (refusal 1), and what they must keep once all lines have passed (refusal 30).
 #![tactic(auto)]
 
-ghost use Rattle.std.specs.Prelude.{◌≡◌};
+ghost use Rattle.std.specs.Prelude.{◌≡◌, true};
 ghost use Rattle.text_reader.specs.Lines.{lines};
 ghost use Rattle.network_tables.specs.Tables.{Judged};
 ghost use Rattle.network_tables.specs.Blocks.{block_checks, past_block};
 ghost use Rattle.base_search.specs.Checks.{verdict};
 ghost use Rattle.model.specs.Rules.{valid_past};
-ghost use Rattle.network_past.specs.Past.{FormsAsked, FormsHeld, valid_past_in, TestAsked, valid_links_in, LinksAsked, past_end_checks, EndAsked};
+ghost use Rattle.network_past.specs.Past.{FormsAsked, FormsHeld, valid_past_in, TestAsked, valid_links_in, LinksAsked, past_end_checks, EndAsked, PastHeld};
 
 use base_search::{Reason, Refusal};
-use network_tables::{MAX_LINKS, MAX_STEPS, NetworkTables, PAST_SIZE, ROW_SIZE, Reading};
+use network_tables::{MAX_STEPS, NetworkTables, PAST_SIZE, Reading};
 use step_past::Arrival;
 
 // How many vehicles come to a link's entry in all steps at most: 120 demands of 600,000.
@@ -83,23 +83,34 @@ fn valid_links(tables: &NetworkTables, demands: &[u32], row: &[u32], arrivals: &
 }
 
 // Refusal 30, of the whole past. The lengths of the past and the number of steps were judged as they were read.
-fn is_valid(tables: &NetworkTables, demands: &[u32]) -> bool
-    requires { EndAsked tables.now demands.now }
-    ensures { result ≡ valid_past (lines tables.now.text.now) }
+fn is_valid(
+    tables: &NetworkTables,
+    demands: &[u32],
+    row: &mut [u32],
+    arrivals: &mut [Arrival],
+) -> bool
+    requires { EndAsked tables.now demands.now row.old arrivals.old }
+    ensures judged { result ≡ valid_past (lines tables.now.text.now) }
+    ensures held { result ≡ true → PastHeld tables.now.text.now row.new arrivals.new }
 {
     if !tables.reading.timed {
         return false;
     }
-    let mut row = [0u32; ROW_SIZE];
-    let mut arrivals = [Arrival::default(); MAX_LINKS];
-    step_past::load_past(tables, &mut row, &mut arrivals).is_some()
-        && valid_links(tables, demands, &row, &arrivals)
+    step_past::load_past(tables, row, arrivals).is_some()
+        && valid_links(tables, demands, row, arrivals)
 }
 
-// Refusal 30, after all lines.
-pub fn check_past(tables: &NetworkTables, demands: &[u32]) -> Result<(), Refusal>
-    requires { EndAsked tables.now demands.now }
-    ensures { result ≡ verdict (past_end_checks (lines tables.now.text.now)) }
+// Refusal 30, after all lines. The `H` lines are read for it, so that it also gives what they say of boundary 0: row 0, and what each link waits for.
+pub fn check_past(
+    tables: &NetworkTables,
+    demands: &[u32],
+    row: &mut [u32],
+    arrivals: &mut [Arrival],
+) -> Result<(), Refusal>
+    requires { EndAsked tables.now demands.now row.old arrivals.old }
+    ensures judged { result ≡ verdict (past_end_checks (lines tables.now.text.now)) }
+    ensures held { result ≡ Ok tt → PastHeld tables.now.text.now row.new arrivals.new }
 {
-    base_search::checked(is_valid(tables, demands), Reason::Past, 0, 0)
+    let valid = is_valid(tables, demands, row, arrivals);
+    base_search::checked(valid, Reason::Past, 0, 0)
 }

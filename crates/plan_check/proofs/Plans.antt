@@ -6,7 +6,6 @@ use Rattle.base_search.proofs.Laws.{passes-of-hold, or-else-passes, or-else-refu
 use Rattle.text_reader.specs.Lines.{Line, lines}
 use Rattle.text_reader.specs.Padding.{PaddingIgnored}
 use Rattle.text_reader.proofs.Padding.{same_lines}
-use Rattle.model.specs.declared.Signal.{Signal}
 use Rattle.model.specs.Network.{link_count, step_count}
 use Rattle.model.specs.Table.{network_checks, ledger_checks, plan_line_checks, plan_checks}
 use Rattle.model.specs.Hold.{plan_of, EmptyHolds}
@@ -18,7 +17,8 @@ use Rattle.model.proofs.Promises.{promises}
 use Rattle.model.proofs.Hold.{empty_holds}
 use Rattle.network_tables.specs.declared.NetworkTables.{NetworkTables}
 use Rattle.network_tables.specs.declared.Reading.{Reading}
-use Rattle.network.specs.Loading.{TablesLoaded}
+use Rattle.network.specs.declared.Start.{Start}
+use Rattle.network.specs.Loading.{StartLoaded}
 use Rattle.plan_steps.specs.Steps.{RunAsked, RunGot}
 use Rattle.plan_check.specs.Plan.{PlanGot}
 use Rattle.std.specs.Prelude.{Result, Ok, Err}
@@ -46,7 +46,7 @@ module _ (network plan : List Line) (size : ℕ) where
     unfolding verdict plan_checks ledger_checks
     plan-lines room = or-else-passes _ _ valid ∙ or-else-passes _ _ (checked-passes _ 8 0 0 room)
 
-module _ (tables : NetworkTables) (plan_text : List ℕ) {signals : List Signal} (old : List ℕ) (loaded : TablesLoaded tables signals) where
+module _ (tables : NetworkTables) (plan_text : List ℕ) {start : Start} (old : List ℕ) (loaded : StartLoaded tables start) where
   abbrev network_text : List ℕ
   network_text = tables.text.now
 
@@ -60,33 +60,25 @@ module _ (tables : NetworkTables) (plan_text : List ℕ) {signals : List Signal}
   pln = plan_of network_text plan_text
 
   valid : verdict (network_checks net) ≡ Ok tt
-  valid = passes-of-hold (network_checks net) loaded.holds
+  valid = passes-of-hold (network_checks net) loaded.tabled.holds
 
   needed : 2 * (reading.counts.steps + 1) * reading.counts.links ≡ 2 * suc (step_count net) * link_count net
-  needed = ap₂ (λ s l. 2 * s * l) (add-one reading.counts.steps ∙ ap suc loaded.counted.steps) loaded.counted.links
+  needed = ap₂ (λ s l. 2 * s * l) (add-one reading.counts.steps ∙ ap suc loaded.tabled.counted.steps) loaded.tabled.counted.links
 
   -- the ledger is too short
   pub plan-short : {room : ℕ} → room ≡ 2 * (reading.counts.steps + 1) * reading.counts.links → length old < room → PlanGot network_text plan_text old (Err (refusal 8 0 0)) old
-  plan-short start h =
-      let short = lt-leb _ _ (rw (start ∙ needed) at h) in
+  plan-short is-size h =
+      let short = lt-leb _ _ (rw (is-size ∙ needed) at h) in
       let e = early net pln old (refusal 8 0 0) (λ d. refused-fails (ledger_checks net (length old)) (refusal 8 0 0) (ledger-refused net pln (length old) short) d.ledger-holds)
       (ledger-short net pln (length old) valid short) in
       record { answered = e.0; written-rows = e.1 }
 
-  module _ {size : ℕ} (start : size ≡ 2 * (reading.counts.steps + 1) * reading.counts.links) (h : size ≤ length old) where
+  module _ {size : ℕ} (is-size : size ≡ 2 * (reading.counts.steps + 1) * reading.counts.links) (h : size ≤ length old) where
     room : 2 * suc (step_count net) * link_count net ≤ length old
-    room = rw (start ∙ needed) at h
+    room = rw (is-size ∙ needed) at h
 
-    pub run-asked : RunAsked tables signals old
-    run-asked =
-        record {
-          tables = record { holds = loaded.holds; counted = loaded.counted; link-table = loaded.link-table; movement-table = loaded.movement-table; time-table = loaded.time-table };
-          trams-start = loaded.trams-start;
-          signal-table = loaded.signal-table;
-          past-start = loaded.past-start;
-          steps-start = loaded.steps-start;
-          room = room;
-        }
+    pub run-asked : RunAsked tables start old
+    run-asked = record { loaded = loaded; room = room }
 
     pub plan_run : {answer : (Result Totals Refusal)} {after : List ℕ} → RunGot network_text plan_text old answer after → PlanGot network_text plan_text old answer after
     plan_run got =

@@ -7,31 +7,31 @@ ghost use Rattle.text_reader.specs.Padding.{PaddingIgnored};
 ghost use Rattle.model.specs.Hold.{plan_of, EmptyHolds};
 ghost use Rattle.model.specs.Calls.{check_plan, ledger_after};
 ghost use Rattle.model.specs.Guarantees.{Promises};
-ghost use Rattle.network.specs.Loading.{TablesLoaded};
+ghost use Rattle.network.specs.Loading.{StartLoaded};
 ghost use Rattle.plan_check.specs.Plan.{PlanGot};
 
 use base_search::{Reason, Refusal};
-use model::{Signal, Totals};
-use network::Room;
-use network_tables::{MAX_SIGNALS, NetworkTables, row_start};
+use model::Totals;
+use network::{Room, Start};
+use network_tables::{NetworkTables, row_start};
 
-// Judges a plan on a network that has passed, from its signals on, which it steps on: the ledger's length, then the steps.
+// Judges a plan on a network that has passed, from its start on, which it steps on: the ledger's length, then the steps.
 // No struct of the four: two are read and two are written, and each caller has the four as they are. That the tables are loaded is no fact of their type, since it
-// speaks of the signals too, which change while the tables stay.
+// speaks of the start too, which changes while the tables stay.
 pub fn judge_loaded(
     plan: &[u8],
     tables: &NetworkTables,
-    signals: &mut [Signal],
+    start: &mut Start,
     ledger: &mut [u32],
 ) -> Result<Totals, Refusal>
-    requires { TablesLoaded tables.now signals.old }
+    requires { StartLoaded tables.now start.old }
     ensures { PlanGot tables.now.text.now plan.now ledger.old result ledger.new }
 {
     let counts = tables.reading.counts;
     if ledger.len() < row_start(counts.steps + 1, counts.links) {
         return Err(Reason::Ledger.refusal(0, 0));
     }
-    plan_steps::run_steps(plan, tables, signals, ledger)
+    plan_steps::run_steps(plan, tables, start, ledger)
 }
 
 // Check a plan: refusals 1 to 6, 8 to 18, and 25 to 30. A refusal writes only row 0 and the rows of steps that had passed.
@@ -42,8 +42,8 @@ pub fn check_plan(network: &[u8], plan: &[u8], ledger: &mut [u32]) -> Result<Tot
     ensures empty_holds { EmptyHolds network.now plan.now ledger.old ledger.new result }
     ensures padding_ignored { PaddingIgnored network.now (λ padded_network. PaddingIgnored plan.now (λ padded_plan. PlanGot padded_network padded_plan ledger.old result ledger.new)) }
 {
-    let mut signals = [Signal::default(); MAX_SIGNALS];
+    let mut start = Start::default();
     let mut room = Room::default();
-    let tables = network::read_network(network, &mut signals, &mut room)?;
-    judge_loaded(plan, &tables, &mut signals, ledger)
+    let tables = network::read_start(network, &mut start, &mut room)?;
+    judge_loaded(plan, &tables, &mut start, ledger)
 }

@@ -7,15 +7,14 @@ ghost use Rattle.text_reader.specs.Lines.{lines};
 ghost use Rattle.text_reader.specs.Padding.{PaddingIgnored};
 ghost use Rattle.model.specs.Hold.{plan_of};
 ghost use Rattle.model.specs.Calls.{ledger_after};
-ghost use Rattle.network.specs.Loading.{TablesLoaded};
+ghost use Rattle.network.specs.Loading.{StartLoaded};
 ghost use Rattle.plan_compare.specs.Comparison.{order_number, order_by, plan_number, refusal_in, compare_plans, second_ledger_after};
 ghost use Rattle.plan_compare.specs.Promises.{ComparisonPromises, ComparisonGot};
 ghost use Rattle.plan_compare.specs.Curves.{lines_order, Formed, NextAsked, NextGot};
 
 use base_search::Refusal;
-use model::Signal;
-use network::Room;
-use network_tables::{Counts, LINE_SIZE, MAX_SIGNALS, NetworkTables};
+use network::{Room, Start};
+use network_tables::{Counts, LINE_SIZE, NetworkTables};
 
 // How the first of two plans stands to the second, by all vehicles let out up to each boundary.
 #[derive(Clone, Copy)]
@@ -146,26 +145,26 @@ fn gap_between(first: u64, second: u64) -> i64
     first as i64 - second as i64
 }
 
-// Compares two plans on a network that has passed: all refusals of the first, then those of the second. Each starts from the same signals.
+// Compares two plans on a network that has passed: all refusals of the first, then those of the second. Each begins with the same start.
 fn compare_on_network(
     tables: &NetworkTables,
     first: &[u8],
     second: &[u8],
-    signals: &mut [Signal; MAX_SIGNALS],
+    start: &mut Start,
     first_ledger: &mut [u32],
     second_ledger: &mut [u32],
 ) -> Result<Comparison, ComparisonRefusal>
-    requires { TablesLoaded tables.now signals.old }
+    requires { StartLoaded tables.now start.old }
     ensures { ComparisonGot tables.now.text.now first.now second.now first_ledger.old second_ledger.old result first_ledger.new second_ledger.new }
 {
-    let mut signals_of_first = *signals;
+    let mut start_of_first = *start;
     let first_totals = plan_check::judge_loaded(
         first,
         tables,
-        &mut signals_of_first,
+        &mut start_of_first,
         first_ledger,
     ).map_err(ComparisonRefusal::First)?;
-    let second_totals = plan_check::judge_loaded(second, tables, signals, second_ledger).map_err(
+    let second_totals = plan_check::judge_loaded(second, tables, start, second_ledger).map_err(
         ComparisonRefusal::Second,
     )?;
     Ok(Comparison {
@@ -188,16 +187,16 @@ pub fn compare_plans(
     ensures comparison_promises { ComparisonPromises (lines network.now) (plan_of network.now first.now) (plan_of network.now second.now) (length first_ledger.old) (length second_ledger.old) result }
     ensures padding_ignored { PaddingIgnored network.now (λ padded_network. PaddingIgnored first.now (λ padded_first. PaddingIgnored second.now (λ padded_second. ComparisonGot padded_network padded_first padded_second first_ledger.old second_ledger.old result first_ledger.new second_ledger.new))) }
 {
-    let mut signals = [Signal::default(); MAX_SIGNALS];
+    let mut start = Start::default();
     let mut room = Room::default();
-    let tables = network::read_network(network, &mut signals, &mut room).map_err(
+    let tables = network::read_start(network, &mut start, &mut room).map_err(
         ComparisonRefusal::Network,
     )?;
     compare_on_network(
         &tables,
         first,
         second,
-        &mut signals,
+        &mut start,
         first_ledger,
         second_ledger,
     )

@@ -1,5 +1,5 @@
 -- The steps of a plan, taken one after another.
-use Rattle.base_laws.proofs.Kit.{ℕ, zero, suc, ◌+◌, ◌*◌, ◌≤◌, ◌<◌, ◌≡◌, refl, sym, ap, ◌∙◌, Bool, true, false, cond, List, [], dec_le, mul-le-mul_right, add-one, arith, le-leb, eqb, length, List·getD-eq-default}
+use Rattle.base_laws.proofs.Kit.{ℕ, zero, suc, ◌+◌, ◌*◌, ◌≤◌, ◌<◌, ◌≡◌, refl, sym, ap, ◌∙◌, Bool, true, false, cond, List, [], ◌++◌, dec_le, mul-le-mul_right, add-one, arith, le-leb, eqb, length, take, drop, length-take-le, List·getD-eq-default}
 use Rattle.base_search.specs.declared.Refusal.{Refusal}
 use Rattle.base_search.specs.Checks.{refusal, checked, verdict, Hold}
 use Rattle.base_search.proofs.Laws.{hold-of-passes}
@@ -8,37 +8,36 @@ use Rattle.text_reader.specs.Reading.{at_end}
 use Rattle.text_reader.proofs.Laws.{starts_first}
 use Rattle.model.specs.declared.Signal.{Signal}
 use Rattle.model.specs.declared.Totals.{Totals}
-use Rattle.model.specs.Network.{max_links, max_trams, link_count, step_count, past_count, on_timeline, signal}
+use Rattle.model.specs.Network.{max_trams, link_count, step_count, past_count, signal}
 use Rattle.model.specs.Flows.{signal_at}
 use Rattle.model.specs.Table.{is_form, letter_p, ledger_checks, line_checks, plan_line_checks}
 use Rattle.model.specs.Hold.{plan_of}
 use Rattle.model.specs.Calls.{plan_answer, written, ledger_after}
 use Rattle.model.specs.Guarantees.{RowDue}
 use Rattle.model.proofs.Accepted.{ValidNetwork, valid-network}
-use Rattle.model.proofs.Rows.{length-written}
+use Rattle.model.proofs.Rows.{length-written, written_none}
 use Rattle.model.proofs.Timeline.{past-entered, start_left}
 use Rattle.model.proofs.Written.{refused-fails, due-written, rows-until}
 use Rattle.network_tables.specs.declared.Counts.{Counts}
 use Rattle.network_tables.specs.declared.NetworkTables.{NetworkTables}
 use Rattle.network_tables.specs.declared.Tram.{Tram}
 use Rattle.network_tables.specs.Tables.{SignalTable, TramTable}
-use Rattle.network_tables.proofs.Tables.{travel-time-at}
 use Rattle.network_trams.specs.Claims.{LoadAsked}
-use Rattle.step_arrivals.proofs.Boundaries.{cursor-on}
 use Rattle.step_past.specs.declared.Arrival.{Arrival}
-use Rattle.step_past.specs.Curves.{PastAsked, PastLoaded}
+use Rattle.network.specs.declared.Start.{Start}
+use Rattle.network.specs.Loading.{StartLoaded}
 use Rattle.step_rows.specs.Waiting.{FirstWaits, WaitingTable}
 use Rattle.step_rows.proofs.WaitingTexts.{waiting-first, outside-is}
 use Rattle.step_signals.specs.Step.{SignalsAt}
 use Rattle.step_signals.proofs.Rules.{ready-first}
 use Rattle.step_rows.specs.Rows.{RowHolds}
-use Rattle.step_rows.proofs.Ledger.{first-written}
+use Rattle.step_rows.proofs.Ledger.{row-front, next-written}
 use Rattle.plan_steps.specs.declared.State.{State}
 use Rattle.plan_steps.specs.declared.Lines.{Lines}
 use Rattle.plan_steps.specs.declared.Run.{Run}
 use Rattle.plan_steps.specs.Totals.{held_in}
 use Rattle.plan_steps.specs.PlanLine.{formed}
-use Rattle.plan_steps.specs.Reading.{Cleared}
+use Rattle.plan_steps.specs.Reading.{Cleared, Tables}
 use Rattle.plan_steps.specs.State.{StateAt, first_state, StepAsked, StepGot, finished}
 use Rattle.plan_steps.specs.Steps.{RunAsked, RunGot, StepsAsked, Stopped, AllTaken, StepsGot, Running}
 use Rattle.plan_steps.proofs.Verdicts.{plan-stops, plan-surplus, plan-passes}
@@ -47,8 +46,8 @@ use Rattle.plan_steps.proofs.Ledger.{written-again}
 use Rattle.plan_steps.proofs.Reading.{cleared-lent}
 use Rattle.network_trams.proofs.Ready.{trams-ready}
 use Rattle.plan_steps.proofs.Adding.{totals-first}
-use Rattle.step_past.proofs.Valid.{past-form, entered-at-start, past_fits, left-at-start, left-fits}
-use Rattle.std.specs.Prelude.{Option, Some, None, Result, Ok, Err}
+use Rattle.step_past.proofs.Valid.{entered-at-start, left-at-start}
+use Rattle.std.specs.Prelude.{Result, Ok, Err}
 
 -- the signals before the plan
 pub signals-first : (network plan : List Line) (signals : List Signal) → ValidNetwork network → SignalTable network signals → SignalsAt network plan 0 signals
@@ -90,121 +89,93 @@ module _ (plan : List ℕ) (at steps : ℕ) (t : Totals) where
   finish-more false e q h = let told : q ≡ refusal 9 (steps + 1) 0 = cc in rw (← e, told) refl
 
 -- ---- the first steps
-module _ {tables : NetworkTables} {steps : ℕ} {signals₀ : List Signal} {waiting₀ old : List ℕ} (a : StepsAsked tables steps signals₀ waiting₀ old) where
+-- the tables of a network that has passed
+pub tables-held : {tables : NetworkTables} {start : Start} → StartLoaded tables start → Tables tables
+tables-held loaded =
+    let l = loaded.tabled in
+    record { holds = l.holds; counted = l.counted; link-table = l.link-table; movement-table = l.movement-table; time-table = l.time-table }
+
+module _ {tables : NetworkTables} {steps : ℕ} {start : Start} {waiting₀ old : List ℕ} (a : StepsAsked tables steps start waiting₀ old) where
   abbrev network_text : List ℕ
   network_text = tables.text.now
 
   abbrev netw : List Line
   netw = lines network_text
 
-  start-room : 2 * link_count netw ≤ length old
-  start-room = let m : 1 ≤ suc steps = omega arith in omega (arith, a.room, mul-le-mul_right (2 * link_count netw) m)
-
-  at-start : on_timeline netw 0 ≡ past_count netw
-  unfolding on_timeline
-  at-start = omega arith
-
   abbrev counts : Counts
   counts = tables.reading.counts
 
+  held : Tables tables
+  held = tables-held a.loaded
+
+  start-room : 2 * link_count netw ≤ length old
+  start-room = let m : 1 ≤ suc steps = omega arith in omega (arith, a.room, mul-le-mul_right (2 * link_count netw) m)
+
+  start-long : 2 * link_count netw ≤ length start.row
+  start-long = omega (arith, a.loaded.past-held.row-size, held.counted.few.links, held.counted.links)
+
   pub trams-asked : {room : List Tram} → length room ≡ max_trams → LoadAsked tables room
-  trams-asked size = trams-ready a.trams-start a.tables.counted a.tables.holds size
+  trams-asked size = trams-ready a.loaded.tabled.trams-start held.counted held.holds size
 
-  pub past-asked : {arrivals : List Arrival} → length arrivals ≡ max_links → PastAsked tables old arrivals
-  past-asked size =
-      record {
-        counted = a.tables.counted;
-        starts = a.past-start;
-        forms = past-form netw a.tables.holds;
-        link-table = a.tables.link-table;
-        time-table = a.tables.time-table;
-        cursors = λ i l. let l' : i < link_count netw = omega (arith, a.tables.counted.links) in
-            rw (a.tables.counted.past, ← at-start) (cursor-on a.tables.holds a.tables.time-table 0 i (omega arith) l' (omega arith) (travel-time-at a.tables.link-table i l'));
-        row_room = omega (arith, start-room, a.tables.counted.links);
-        size = size;
-      }
+  -- row 0 of the start is as long as its place, which the ledger has
+  pub row-cut : (2 * counts.links ≤ length start.row) × (0 + length (take (2 * counts.links) start.row) ≤ length old)
+  row-cut = (omega (arith, start-long, held.counted.links), omega (arith, start-room, held.counted.links, length-take-le (2 * counts.links) start.row (omega (arith, start-long, held.counted.links))))
 
-  module _ {ledger : List ℕ} {arrivals : List Arrival} {fit : Option (Unit {0})} (loaded : PastLoaded tables old fit ledger arrivals) where
-    -- every number of row 0 fits 32 bits
-    fits : fit ≡ Some tt
-    fits = go fit refl
-      where
-        go : (b : Option (Unit {0})) → fit ≡ b → fit ≡ Some tt
-        go (Some _) e = e
-        go None e = let o = loaded.overflows e in absurd (o.over (past_fits netw a.tables.holds o.link o.below (past_count netw) (omega arith)) (left-fits netw a.tables.holds o.link o.below))
+  module _ (plan_text : List ℕ) where
+    abbrev plnn : List Line
+    plnn = plan_of network_text plan_text
 
-    module _ (plan_text : List ℕ) where
-      abbrev plnn : List Line
-      plnn = plan_of network_text plan_text
+    row_first : RowHolds netw plnn 0 start.row
+    row_first =
+        let row-held = a.loaded.past-held.row-held in
+        record {
+          entered-at = λ i l. row-held.entered_by i l ∙ past-entered netw [] plnn (past_count netw) i (omega arith) ∙ sym (entered-at-start netw plnn i);
+          left_at = λ i l. row-held.left_by i l ∙ left-at-start netw i ∙ start_left netw [] plnn i;
+        }
 
-      row_first : RowHolds netw plnn 0 ledger
-      row_first =
-          record {
-            entered-at = λ i l. (loaded.row-held fits).entered_by i l ∙ past-entered netw [] plnn (past_count netw) i (omega arith) ∙ sym (entered-at-start netw plnn i);
-            left_at = λ i l. (loaded.row-held fits).left_by i l ∙ left-at-start netw i ∙ start_left netw [] plnn i;
-          }
-
+    module _ {at : ℕ} (front-is : at ≡ 0) {ledger : List ℕ} (wrote : ledger ≡ take at old ++ (take (2 * counts.links) start.row ++ drop (at + length (take (2 * counts.links) start.row)) old)) where
       first : ledger ≡ written netw plnn old 1
-      first = first-written netw plnn old ledger loaded.size start-room row_first (λ k l. loaded.kept k (omega (arith, a.tables.counted.links)))
+      first =
+          let none : at ≡ 2 * 0 * link_count netw = omega arith in
+          let wide : length (take (2 * link_count netw) start.row) ≡ 2 * link_count netw = length-take-le (2 * link_count netw) start.row start-long in
+          next-written netw plnn old start.row 0 (sym (written_none netw plnn old)) (row-front netw plnn 0 start-long row_first) (rw (held.counted.links, wide, none) at wrote)
 
       since-self : ledger ≡ written netw plnn ledger 1
       since-self = first ∙ sym (written-again netw plnn old 1 1 (omega arith)) ∙ ap (λ x. written netw plnn x 1) (sym first)
 
-      -- what is written on top of row 0 is written since the ledger was lent
-      since-lent : (m : ℕ) → 1 ≤ m → written netw plnn ledger m ≡ written netw plnn old m
-      since-lent m h = ap (λ x. written netw plnn x m) first ∙ written-again netw plnn old 1 m h
-
-      module _ {signals : List Signal} {waiting ledger' : List ℕ} where
-        pub stopped-since : {r : Refusal} → Stopped network_text plan_text ledger steps r ledger' → StepsGot network_text plan_text old steps (Err r) signals waiting ledger'
-        stopped-since s =
-            record { outcome = record { step = s.step; within = s.within; passed = s.passed; refused = s.refused; rows = s.rows ∙ since-lent (suc s.step) (omega arith) } }
-
-        pub taken-since : {state : State} → AllTaken network_text plan_text ledger steps state signals waiting ledger' → StepsGot network_text plan_text old steps (Ok state) signals waiting ledger'
-        taken-since s =
-            record {
-              outcome = record {
-                passed = s.passed;
-                plan-starts = s.plan-starts;
-                signals-at = s.signals-at;
-                totals-at = s.totals-at;
-                waiting-at = s.waiting-at;
-                rows = s.rows ∙ since-lent (suc steps) (omega arith);
-              };
-            }
-
       module _ {waiting : List ℕ} (waits : FirstWaits tables.links.now (length tables.links.now) waiting) where
         waiting-start : WaitingTable netw plnn 0 waiting
-        waiting-start = waiting-first plnn a.tables.link-table (rw a.tables.link-table.size at waits)
+        waiting-start = waiting-first plnn held.link-table (rw held.link-table.size at waits)
 
-        state-start : {state : State} → state ≡ first_state tables waiting ledger → {signals : List Signal} → SignalTable netw signals → StateAt network_text plan_text state signals arrivals waiting ledger
-        state-start e {signals} table =
+        state-start : {state : State} → state ≡ first_state tables waiting start.row → StateAt network_text plan_text state start.signals start.arrivals waiting ledger
+        state-start e =
             rw e (record {
               within = omega arith;
               passed = λ m l. absurd (omega arith);
-              at = record { step-starts = a.steps-start; plan-starts = λ h. starts_first plan_text };
-              signals-at = signals-first netw plnn signals (valid-network netw a.tables.holds) table;
-              totals-at = totals-first netw plnn a.tables.holds counts a.tables.counted ledger row_first (held_in counts ledger) refl;
-              outside-at = outside-is a.tables.counted waiting-start;
-              arrivals-at = loaded.arrivals-at;
-              curves-at = loaded.curves-at fits;
+              at = record { step-starts = a.loaded.tabled.steps-start; plan-starts = λ h. starts_first plan_text };
+              signals-at = signals-first netw plnn start.signals (valid-network netw held.holds) a.loaded.tabled.signal-table;
+              totals-at = totals-first netw plnn held.holds counts held.counted start.row row_first (held_in counts start.row) refl;
+              outside-at = outside-is held.counted waiting-start;
+              arrivals-at = a.loaded.past-held.arrivals-at;
+              curves-at = a.loaded.past-held.curves-at;
               waiting-at = waiting-start;
               rows = since-self;
             })
 
         -- by a run on the same tables and plan
-        pub running-first : (run : Run) → run.tables.now ≡ tables → run.plan.now ≡ plan_text → TramTable netw run.trams.now → {state : State} → state ≡ first_state tables waiting ledger
-            → {signals : List Signal} → SignalTable netw signals → {said : Lines} → Cleared said → Running run steps 0 ledger state signals arrivals waiting ledger said
-        running-first run et ep trams-held {state} e {signals} table cleared =
+        pub running-first : (run : Run) → run.tables.now ≡ tables → run.plan.now ≡ plan_text → TramTable netw run.trams.now → {state : State} → state ≡ first_state tables waiting start.row
+            → {said : Lines} → Cleared said → Running run steps 0 old state start.signals start.arrivals waiting ledger said
+        running-first run et ep trams-held {state} e cleared =
             record {
-              tables = rw et a.tables;
+              tables = rw et held;
               tram-table = rw et trams-held;
               taken = rw e refl;
-              state-at = rw (et, ep) (state-start e table);
+              state-at = rw (et, ep) (state-start e);
               lent = cleared-lent cleared;
               few-steps = rw et a.few-steps;
-              since = rw (et, ep) since-self;
-              long = refl;
-              room = rw et (omega (arith, loaded.size, a.room));
+              since = rw (et, ep) first;
+              long = ap length first ∙ length-written netw plnn old 1 (omega (arith, start-room));
+              room = rw et a.room;
             }
 
 module _ {run : Run} {steps n : ℕ} {old : List ℕ} {state : State} {signals : List Signal} {arrivals : List Arrival} {waiting ledger : List ℕ} {lent : Lines}
@@ -269,7 +240,7 @@ module _ {run : Run} {steps n : ℕ} {old : List ℕ} {state : State} {signals :
       })
 
 -- ---- all steps
-module _ (plan_text : List ℕ) {tables : NetworkTables} {signals₀ : List Signal} {old : List ℕ} (a : RunAsked tables signals₀ old) where
+module _ (plan_text : List ℕ) {tables : NetworkTables} {start : Start} {old : List ℕ} (a : RunAsked tables start old) where
   abbrev network : List Line
   network = lines tables.text.now
 
@@ -281,7 +252,7 @@ module _ (plan_text : List ℕ) {tables : NetworkTables} {signals₀ : List Sign
   due n h passed =
       record {
         in-plan = h;
-        network-holds = a.tables.holds;
+        network-holds = a.loaded.tabled.holds;
         ledger-holds = unfold Hold ledger_checks in le-leb _ _ a.room;
         steps-hold = λ m l. hold-of-passes (line_checks network plan m) (passed m l);
       }
@@ -295,7 +266,7 @@ module _ (plan_text : List ℕ) {tables : NetworkTables} {signals₀ : List Sign
     pub run-refused : {q : Refusal} → result ≡ Err q → RunGot tables.text.now plan_text old (Err q) ledger
     run-refused {q} e =
         let s = rw e at got.outcome in
-        let more : s.step < step_count network = omega (arith, s.within, a.tables.counted.steps) in
+        let more : s.step < step_count network = omega (arith, s.within, a.loaded.tabled.counted.steps) in
         let d = due s.step (omega arith) s.passed in
         record {
           answered = rw (plan-stops network plan s.step q s.passed more s.refused) (unfold plan_answer in refl);
@@ -308,7 +279,7 @@ module _ (plan_text : List ℕ) {tables : NetworkTables} {signals₀ : List Sign
     run-finished {state} {answer} p f = go (eqb (length plan) (step_count network)) refl
       where
         all : AllTaken tables.text.now plan_text old (step_count network) state signals waiting ledger
-        all = rw a.tables.counted.steps at (rw p at got.outcome)
+        all = rw a.loaded.tabled.counted.steps at (rw p at got.outcome)
 
         at-end : (b : Bool) → eqb (length plan) (step_count network) ≡ b → at_end plan_text state.place.plan_at ≡ b
         at-end b e = plan-ends tables.text.now plan_text state.place.plan_at (step_count network) all.plan-starts (lines-within network plan (step_count network) all.passed) refl ∙ e
@@ -336,6 +307,6 @@ module _ (plan_text : List ℕ) {tables : NetworkTables} {signals₀ : List Sign
         go : (b : Bool) → eqb (length plan) (step_count network) ≡ b → RunGot tables.text.now plan_text old answer ledger
         go true e = got-by (made true e ∙ accepted-is ∙ ap (plan_answer network plan) (sym (plan-passes network plan all.passed e)))
         go false e =
-            let k : tables.reading.counts.steps + 1 ≡ suc (step_count network) = omega (arith, a.tables.counted.steps) in
+            let k : tables.reading.counts.steps + 1 ≡ suc (step_count network) = omega (arith, a.loaded.tabled.counted.steps) in
             got-by (made false e ∙ ap (λ x. Err (refusal 9 x 0)) k ∙ refused-is (refusal 9 (suc (step_count network)) 0)
             ∙ ap (plan_answer network plan) (sym (plan-surplus network plan all.passed e)))

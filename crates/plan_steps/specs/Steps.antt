@@ -3,16 +3,17 @@ use Rattle.std.specs.Prelude.{ℕ, suc, ◌*◌, ◌≤◌, ◌<◌, ◌≡◌, 
 use Rattle.base_search.specs.declared.Refusal.{Refusal}
 use Rattle.base_search.specs.Checks.{verdict}
 use Rattle.text_reader.specs.Lines.{lines}
-use Rattle.text_reader.specs.Reading.{Starts}
 use Rattle.model.specs.declared.Signal.{Signal}
-use Rattle.model.specs.Network.{max_links, link_count, step_count, tram_line, timeline_line, step_line}
+use Rattle.model.specs.Network.{max_links, link_count, step_count}
 use Rattle.model.specs.Flows.{totals}
 use Rattle.model.specs.Table.{line_checks, plan_line_checks}
 use Rattle.model.specs.Hold.{plan_of}
 use Rattle.model.specs.Calls.{plan_answer, rows_written, written, ledger_after}
 use Rattle.network_tables.specs.declared.NetworkTables.{NetworkTables}
-use Rattle.network_tables.specs.Tables.{SignalTable, TramTable}
+use Rattle.network_tables.specs.Tables.{TramTable}
 use Rattle.step_past.specs.declared.Arrival.{Arrival}
+use Rattle.network.specs.declared.Start.{Start}
+use Rattle.network.specs.Loading.{StartLoaded}
 use Rattle.step_rows.specs.Waiting.{WaitingTable}
 use Rattle.step_signals.specs.Step.{SignalsAt}
 use Rattle.plan_steps.specs.declared.State.{State}
@@ -24,13 +25,9 @@ use Rattle.plan_steps.specs.PlanLine.{PlanAt}
 use Rattle.model.specs.declared.Totals.{Totals}
 
 -- what taking all steps asks ..
-pub record RunAsked (tabled : NetworkTables) (signals : List Signal) (ledger : List ℕ) : Type 0 where
-  pub tables : Tables tabled
-  pub trams-start : Starts tabled.text.now tabled.reading.trams_at (tram_line (lines tabled.text.now) 0)
-  pub signal-table : SignalTable (lines tabled.text.now) signals
-  pub past-start : Starts tabled.text.now tabled.reading.past_at (timeline_line (lines tabled.text.now) 0)
-  pub steps-start : Starts tabled.text.now tabled.reading.steps_at (step_line (lines tabled.text.now) 0)
-  pub room : 2 * suc (step_count (lines tabled.text.now)) * link_count (lines tabled.text.now) ≤ length ledger
+pub record RunAsked (tables : NetworkTables) (start : Start) (ledger : List ℕ) : Type 0 where
+  pub loaded : StartLoaded tables start
+  pub room : 2 * suc (step_count (lines tables.text.now)) * link_count (lines tables.text.now) ≤ length ledger
 
 -- .. and promises: the answer, and the ledger with the rows of the steps that have passed
 pub record RunGot (network_text plan_text old : List ℕ) (answer : Result Totals Refusal) (ledger : List ℕ) : Type 0 where
@@ -39,15 +36,11 @@ pub record RunGot (network_text plan_text old : List ℕ) (answer : Result Total
   pub some-row : 1 ≤ rows_written (lines network_text) (plan_of network_text plan_text) (length old)
 
 -- what taking the first steps asks: room for their rows alone
-pub record StepsAsked (tabled : NetworkTables) (steps : ℕ) (signals : List Signal) (waiting ledger : List ℕ) : Type 0 where
-  pub tables : Tables tabled
-  pub trams-start : Starts tabled.text.now tabled.reading.trams_at (tram_line (lines tabled.text.now) 0)
-  pub signal-table : SignalTable (lines tabled.text.now) signals
-  pub past-start : Starts tabled.text.now tabled.reading.past_at (timeline_line (lines tabled.text.now) 0)
-  pub steps-start : Starts tabled.text.now tabled.reading.steps_at (step_line (lines tabled.text.now) 0)
-  pub few-steps : steps ≤ step_count (lines tabled.text.now)
+pub record StepsAsked (tables : NetworkTables) (steps : ℕ) (start : Start) (waiting ledger : List ℕ) : Type 0 where
+  pub loaded : StartLoaded tables start
+  pub few-steps : steps ≤ step_count (lines tables.text.now)
   pub waiting-size : length waiting ≡ max_links
-  pub room : 2 * suc steps * link_count (lines tabled.text.now) ≤ length ledger
+  pub room : 2 * suc steps * link_count (lines tables.text.now) ≤ length ledger
 
 -- a step is refused, after steps that pass: the ledger has the rows up to it
 pub record Stopped (network_text plan_text old : List ℕ) (steps : ℕ) (r : Refusal) (ledger : List ℕ) : Type 0 where

@@ -11,6 +11,7 @@ ghost use Rattle.plan_steps.specs.Steps.{StepsAsked, StepsGot, RunAsked, RunGot}
 
 use base_search::{Reason, Refusal, checked};
 use model::{Signal, Totals};
+use network::Start;
 use network_tables::{
     Counts, LINE_SIZE, MAX_LINKS, MAX_SIGNALS, MAX_TRAMS, NetworkTables, ROW_SIZE, STEP_SIZE, Tram,
     row_start,
@@ -259,26 +260,29 @@ fn finish(plan: &[u8], at: usize, steps: usize, totals: Totals) -> Result<Totals
     Ok(totals)
 }
 
-// Takes the first steps, so many, one after another, up to the first that is refused: row 0 is written, and the past gives what arrives before time 0. The state
-// is that after them; `signals` and `waiting` have what the signals show and who waits there.
+// Takes the first steps, so many, one after another, up to the first that is refused: row 0 is written, and the signals and the arrivals are moved on from the start.
+// The state is that after them; the signals of `start` and `waiting` have what the signals show and who waits there.
 pub fn take_steps(
     plan: &[u8],
     tables: &NetworkTables,
     steps: usize,
-    signals: &mut [Signal],
+    start: &mut Start,
     waiting: &mut [u32],
     ledger: &mut [u32],
 ) -> Result<State, Refusal>
-    requires { StepsAsked tables.now steps signals.old waiting.old ledger.old }
-    ensures { StepsGot tables.now.text.now plan.now ledger.old steps result signals.new waiting.new ledger.new }
+    requires { StepsAsked tables.now steps start.old waiting.old ledger.old }
+    ensures { StepsGot tables.now.text.now plan.now ledger.old steps result start.new.signals waiting.new ledger.new }
 {
     let mut room = [Tram::default(); MAX_TRAMS];
     let trams = network_trams::load_trams(tables, &mut room);
-    let mut arrivals = [Arrival::default(); MAX_LINKS];
-    // Each number of row 0 of a network that has passed fits (30).
-    let _ = step_past::load_past(tables, ledger, &mut arrivals);
+    let Start {
+        signals,
+        row,
+        arrivals,
+    } = start;
+    step_rows::write_row(ledger, 0, &row[..2 * tables.reading.counts.links]);
     step_rows::first_waiting(tables.links, waiting);
-    let mut state = first_state(tables, waiting, ledger);
+    let mut state = first_state(tables, waiting, row);
     let run = Run {
         plan,
         tables,
@@ -286,23 +290,23 @@ pub fn take_steps(
     };
     let mut lines = Lines::default();
     for _ in 0..steps {
-        state = run.take_step(state, signals, &mut arrivals, waiting, ledger, &mut lines)?;
+        state = run.take_step(state, signals, arrivals, waiting, ledger, &mut lines)?;
     }
     Ok(state)
 }
 
-// Takes all steps, from the signals before the plan on. A plan with more lines than steps is refused after the last.
+// Takes all steps, from the start on. A plan with more lines than steps is refused after the last.
 pub fn run_steps(
     plan: &[u8],
     tables: &NetworkTables,
-    signals: &mut [Signal],
+    start: &mut Start,
     ledger: &mut [u32],
 ) -> Result<Totals, Refusal>
-    requires { RunAsked tables.now signals.old ledger.old }
+    requires { RunAsked tables.now start.old ledger.old }
     ensures { RunGot tables.now.text.now plan.now ledger.old result ledger.new }
 {
     let mut waiting = [0u32; MAX_LINKS];
     let steps = tables.reading.counts.steps;
-    let state = take_steps(plan, tables, steps, signals, &mut waiting, ledger)?;
+    let state = take_steps(plan, tables, steps, start, &mut waiting, ledger)?;
     finish(plan, state.place.plan_at, steps, state.totals)
 }

@@ -7,14 +7,14 @@ ghost use Rattle.text_writer.specs.Records.{record_text};
 ghost use Rattle.text_writer.specs.Writing.{Wrote};
 ghost use Rattle.model.specs.Report.{report, not_read};
 ghost use Rattle.network_tables.specs.Fields.{row_size};
-ghost use Rattle.network.specs.Loading.{TablesLoaded};
+ghost use Rattle.network.specs.Loading.{StartLoaded};
 ghost use Rattle.plancheck_report.specs.Boundaries.{plan_time, TimeAsked, boundary_texts, RowsAsked};
 ghost use Rattle.plancheck_report.specs.Answer.{totals_size, totals_text, refusal_text, answer_text, file_number};
 
 use base_search::Refusal;
-use model::{Signal, Totals};
-use network::Room;
-use network_tables::{MAX_SIGNALS, NetworkTables, ROW_SIZE, TIME_TABLE_SIZE, row_start};
+use model::Totals;
+use network::{Room, Start};
+use network_tables::{NetworkTables, ROW_SIZE, TIME_TABLE_SIZE, row_start};
 
 // The ledger of the largest network: a row for each boundary.
 const LEDGER_SIZE: usize = TIME_TABLE_SIZE * ROW_SIZE;
@@ -124,18 +124,13 @@ fn write_answer(
 }
 
 // Judges a plan on a network that has passed, and writes the report: the ledger is long enough for every network.
-fn write_judged(
-    plan: &[u8],
-    tables: &NetworkTables,
-    signals: &mut [Signal],
-    out: &mut [u8],
-) -> usize
-    requires loaded { TablesLoaded tables.now signals.old }
+fn write_judged(plan: &[u8], tables: &NetworkTables, start: &mut Start, out: &mut [u8]) -> usize
+    requires loaded { StartLoaded tables.now start.old }
     requires in_bounds { OUTPUT_SIZE ≤ length out.old }
     ensures { Wrote (report tables.now.text.now plan.now) 0 out.old out.new result }
 {
     let mut ledger = [0u32; LEDGER_SIZE];
-    let answer = plan_check::judge_loaded(plan, tables, signals, &mut ledger);
+    let answer = plan_check::judge_loaded(plan, tables, start, &mut ledger);
     write_answer(out, tables, answer, &ledger)
 }
 
@@ -145,12 +140,12 @@ pub fn write_report(network: &[u8], plan: &[u8], out: &mut [u8]) -> usize
     ensures wrote { Wrote (report network.now plan.now) 0 out.old out.new result }
     ensures padding_ignored { PaddingIgnored network.now (λ padded_network. PaddingIgnored plan.now (λ padded_plan. Wrote (report padded_network padded_plan) 0 out.old out.new result)) }
 {
-    let mut signals = [Signal::default(); MAX_SIGNALS];
+    let mut start = Start::default();
     let mut room = Room::default();
-    let read = network::read_network(network, &mut signals, &mut room);
+    let read = network::read_start(network, &mut start, &mut room);
     match read {
         Err(refusal) => write_refusal(out, refusal),
-        Ok(tables) => write_judged(plan, &tables, &mut signals, out),
+        Ok(tables) => write_judged(plan, &tables, &mut start, out),
     }
 }
 

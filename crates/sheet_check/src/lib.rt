@@ -6,7 +6,7 @@ ghost use Rattle.std.specs.Prelude.{◌≡◌, ◌<◌, length};
 ghost use Rattle.text_reader.specs.Lines.{lines};
 ghost use Rattle.text_reader.specs.Padding.{PaddingIgnored};
 ghost use Rattle.model.specs.Hold.{plan_of};
-ghost use Rattle.network.specs.Loading.{TablesLoaded};
+ghost use Rattle.network.specs.Loading.{StartLoaded};
 ghost use Rattle.model_sheet.specs.Runs.{earlier, pass_verdict};
 ghost use Rattle.model_sheet.specs.Promises.{SheetPromises};
 ghost use Rattle.sheet_check.specs.Watch.{watch_in, first_broken, watch_after, duration_in, DurationAsked, WatchAsked, Watched};
@@ -14,7 +14,7 @@ ghost use Rattle.sheet_check.specs.Stages.{PassAsked, StepAsked, StepGot, PassGo
 
 use base_search::{Reason, Refusal};
 use model::{Signal, Totals};
-use network::Room;
+use network::{Room, Start};
 use network_tables::{MAX_SIGNALS, MAX_TRAMS, NetworkTables, Tram};
 use plan_steps::{Lines, Place, Run};
 use sheet_lines::{SHEET_FIELDS, SheetLine};
@@ -180,18 +180,18 @@ fn check_on_network(
     tables: &NetworkTables,
     plan: &[u8],
     sheet: &[u8],
-    signals: &mut [Signal; MAX_SIGNALS],
+    start: &mut Start,
     ledger: &mut [u32],
 ) -> Result<Totals, Refusal>
-    requires { TablesLoaded tables.now signals.old }
+    requires { StartLoaded tables.now start.old }
     ensures { SheetPromises (lines tables.now.text.now) (lines sheet.now) (plan_of tables.now.text.now plan.now) ledger.old ledger.new result }
 {
     let count = tables.reading.counts.signals;
     let mut table = [[0u32; SHEET_FIELDS]; MAX_SIGNALS];
-    sheet_lines::read_sheet(sheet, &signals[..count], false, &mut table)?;
-    let mut stepped = *signals;
-    let totals = plan_check::judge_loaded(plan, tables, &mut stepped, ledger)?;
-    pass_plan(plan, tables, &table, signals)?;
+    sheet_lines::read_sheet(sheet, &start.signals[..count], false, &mut table)?;
+    let mut signals = start.signals;
+    let totals = plan_check::judge_loaded(plan, tables, start, ledger)?;
+    pass_plan(plan, tables, &table, &mut signals)?;
     Ok(totals)
 }
 
@@ -205,8 +205,8 @@ pub fn check_sheet(
     ensures sheet_promises { SheetPromises (lines network.now) (lines sheet.now) (plan_of network.now plan.now) ledger.old ledger.new result }
     ensures padding_ignored { PaddingIgnored network.now (λ padded_network. PaddingIgnored plan.now (λ padded_plan. PaddingIgnored sheet.now (λ padded_sheet. SheetPromises (lines padded_network) (lines padded_sheet) (plan_of padded_network padded_plan) ledger.old ledger.new result))) }
 {
-    let mut signals = [Signal::default(); MAX_SIGNALS];
+    let mut start = Start::default();
     let mut room = Room::default();
-    let tables = network::read_network(network, &mut signals, &mut room)?;
-    check_on_network(&tables, plan, sheet, &mut signals, ledger)
+    let tables = network::read_start(network, &mut start, &mut room)?;
+    check_on_network(&tables, plan, sheet, &mut start, ledger)
 }

@@ -120,7 +120,7 @@ fn outside_has(set: u32, links: &[Link], r: usize) -> bool
 }
 
 // Numbers both halves of a network by the set of links in the first. A signal with a link in the second half goes there.
-// Not inlined, and filled where it is lent: `split` takes 7,672 bytes of stack so, of its 8 KiB.
+// Not inlined, and filled where it is lent: so `split` keeps within its 8 KiB of stack (docs/MEASUREMENTS.md).
 #[inline(never)]
 pub fn number_halves(set: u32, tables: &NetworkTables, halves: &mut Halves)
     requires { HalvesAsked tables.now }

@@ -5,7 +5,7 @@ use Rattle.text_reader.specs.Lines.{Line}
 use Rattle.model.specs.Network.{link_count, past_count, on_timeline}
 use Rattle.model.specs.Flows.{timeline_entered, timeline_left, entered, left}
 use Rattle.model.specs.Table.{past_checks, network_checks}
-use Rattle.model.proofs.Bounds.{entered-word, left_word}
+use Rattle.model.proofs.Bounds.{entered-word}
 use Rattle.model.proofs.Timeline.{timeline-entered-more}
 use Rattle.step_past.specs.Curves.{past_entered, past_left, PastForms}
 
@@ -28,6 +28,3 @@ past_fits network holds i l m h =
 pub left-at-start : (network : List Line) (i : ℕ) → past_left network (past_count network) i ≡ left network [] 0 i
 unfolding left on_timeline
 left-at-start network i = let z : past_count network + 0 ≡ past_count network = omega arith in ap (λ m. timeline_left network [] m i) (sym z)
-
-pub left-fits : (network : List Line) → Hold (network_checks network) → (i : ℕ) → i < link_count network → past_left network (past_count network) i < 4294967296
-left-fits network holds i l = omega (arith, left-at-start network i, left_word network [] holds 0 (omega arith) (λ k u. absurd (omega arith)) i l)

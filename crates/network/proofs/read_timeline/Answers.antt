@@ -27,8 +27,8 @@ check_past-requires c =
 pub returns-in_err-check_past : goal.returns-in_err-check_past
 returns-in_err-check_past c =
     rw (passed_on _ _ c.from_residual-in_err-check_past.ensures.1)
-    (past-stop c.requires c.read_past.ensures c.in_ok-reading.was c.read_steps.ensures c.in_ok-reading-2.was c.check_end.ensures c.in_ok-check_end.was c.check_past.ensures c.in_err-check_past.was)
+    (past-stop c.requires c.read_past.ensures c.in_ok-reading.was c.read_steps.ensures c.in_ok-reading-2.was c.check_end.ensures c.in_ok-check_end.was c.check_past.ensures.judged c.in_err-check_past.was)
 
 pub returns : goal.returns
 returns c =
-    timeline-judged c.requires c.read_past.ensures c.in_ok-reading.was c.read_steps.ensures c.in_ok-reading-2.was c.check_end.ensures c.in_ok-check_end.was c.check_past.ensures c.in_ok-check_past.was _ refl refl refl refl refl
+    timeline-judged c.requires c.read_past.ensures c.in_ok-reading.was c.read_steps.ensures c.in_ok-reading-2.was c.check_end.ensures c.in_ok-check_end.was c.check_past.ensures.judged c.in_ok-check_past.was (c.check_past.ensures.held c.in_ok-check_past.was) _ refl refl refl refl refl

@@ -3,4 +3,4 @@ use Rattle.plan_steps.specs.Steps.{Running}
 use Rattle.plan_steps.proofs.take_steps.Given as goal
 
 abbrev pub invariant-loop : goal.invariant-loop
-invariant-loop l = Running l.run l.steps l.counter l.initial.ledger l.state l.signals l.arrivals l.waiting l.ledger l.lines
+invariant-loop l = Running l.run l.steps l.counter l.fn.ledger l.state l.signals l.arrivals l.waiting l.ledger l.lines
