@@ -275,14 +275,16 @@ pub fn take_steps(
 {
     let mut room = [Tram::default(); MAX_TRAMS];
     let trams = network_trams::load_trams(tables, &mut room);
+    // A copy of row 0, which the compiler knows not to lie in the ledger: else the library would need memmove.
+    let row = start.row;
     let Start {
         signals,
-        row,
         arrivals,
+        ..
     } = start;
     step_rows::write_row(ledger, 0, &row[..2 * tables.reading.counts.links]);
     step_rows::first_waiting(tables.links, waiting);
-    let mut state = first_state(tables, waiting, row);
+    let mut state = first_state(tables, waiting, &row);
     let run = Run {
         plan,
         tables,
