@@ -103,17 +103,17 @@
  * MEMORY
  * In bytes. The stack is that of x86-64, as painted (docs/MEASUREMENTS.md; bench/run measures it).
  *     call                          stack     lent, beside what it reads
- *     plancheck_check_network        5,640    nothing
- *     plancheck_network_counts       5,664    nothing
- *     plancheck_check_plan           6,184    the ledger: 4 * PLANCHECK_LEDGER_LEN(L, K), 23,232 at most
- *     plancheck_link_state           5,688    nothing
- *     plancheck_carry_on             6,224    the ledger: 4 * PLANCHECK_LEDGER_LEN(L, b); the buffer for the text
- *     plancheck_plan_from_listing   66,256    the buffer: PLANCHECK_WRITTEN_PLAN_MAX, 151,920, at most
- *     plancheck_compare_plans        7,024    two ledgers: each 4 * PLANCHECK_LEDGER_LEN(L, K), 23,232 at most
- *     plancheck_check_sheet          7,792    the ledger: 4 * PLANCHECK_LEDGER_LEN(L, K), 23,232 at most
- *     plancheck_plan_from_sheet      9,936    the buffer: 30,960 at most
- *     plancheck_split                7,320    four buffers: each half at most the greatest network and plan text
- *     plancheck_run_cells            2,136    nothing
+ *     plancheck_check_network        5,584    nothing
+ *     plancheck_network_counts       5,632    nothing
+ *     plancheck_check_plan           6,544    the ledger: 4 * PLANCHECK_LEDGER_LEN(L, K), 23,232 at most
+ *     plancheck_link_state           5,632    nothing
+ *     plancheck_carry_on             6,688    the ledger: 4 * PLANCHECK_LEDGER_LEN(L, b); the buffer for the text
+ *     plancheck_plan_from_listing   65,584    the buffer: PLANCHECK_WRITTEN_PLAN_MAX, 151,920, at most
+ *     plancheck_compare_plans        7,888    two ledgers: each 4 * PLANCHECK_LEDGER_LEN(L, K), 23,232 at most
+ *     plancheck_check_sheet          7,392    the ledger: 4 * PLANCHECK_LEDGER_LEN(L, K), 23,232 at most
+ *     plancheck_plan_from_sheet     10,000    the buffer: 30,960 at most
+ *     plancheck_split                7,880    four buffers: each half at most the greatest network and plan text
+ *     plancheck_run_cells            2,192    nothing
  *     plancheck_step_vehicles           40    nothing: the places are changed where they stand
  *     plancheck_version                  8    nothing
  * On a Cortex-M0 plancheck_check_network takes 5,860, plancheck_network_counts 5,884, plancheck_check_plan 6,644,
