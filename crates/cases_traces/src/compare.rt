@@ -51,6 +51,7 @@ pub fn run_case(rt: &impl Print, file: &mut impl Read, number: u32) -> Result<us
     let mut red_lines = [0.0; ROOM];
     let mut told = [0.0; ROOM];
     let vehicles = read_u32(file)?;
+    // The form has all counts before the values.
     let advances_count = read_u32(file)?;
     let lines_count = read_u32(file)?;
     let spacing = values::read_value(file)?;

@@ -201,7 +201,8 @@ fn phase_bit(phase: u64) -> u32
     }
 }
 
-// A rate over some seconds, in thousandths of a vehicle. 6 lets no step last more than 60 seconds, so that the product, here and in `number_of`, fits a `u64`.
+// A rate over some seconds, in thousandths of a vehicle. 6 lets no step last more than 60 seconds, so that the product, here and in `number_of`, fits a `u64`;
+// it is asked as in step_signals.
 #[tactic(auto, using(crate::proofs::Tests::tests), unfolding(crate::specs::Listing::is_volume, crate::specs::Listing::volume))]
 fn volume_of(millionths: u64, seconds: u32) -> Option<u32>
     requires small { millionths < 10 ^ 16 }

@@ -120,7 +120,7 @@ fn read_tables<'a>(
 }
 
 // Reads a network into tables of its signals, its links, its movements and the time of each boundary of the timeline, and judges it: refusals 1 to 6, 28 and 30.
-// For calls that judge no plan: what the past gives at the start takes no stack of theirs.
+// For calls that judge no plan: what the past gives at the start takes no stack of theirs, by measurement (docs/MEASUREMENTS.md).
 pub fn read_network<'a>(
     text: &'a [u8],
     signals: &mut [Signal; MAX_SIGNALS],

@@ -201,6 +201,7 @@ impl From<Result<CellsRun, Refusal>> for CellsResult {
     fn from(answer: Result<CellsRun, Refusal>) -> CellsResult {
         match answer {
             Ok(run) => {
+                // By a name: an array that is taken straight out of another struct gets no proof.
                 let volumes = run.volumes;
                 CellsResult {
                     cells: run.cells,

@@ -103,7 +103,8 @@ fn number_half<L: Fn(usize) -> bool, S: Fn(usize) -> bool>(
     }
 }
 
-// Whether a set has link `i`, by its bit. Not `step_signals::opens`, which counts phases from 1 and takes phase 0 with phase 1.
+// Whether a set has link `i`, by its bit. Not `step_signals::opens`, which counts phases from 1 and takes phase 0 with phase 1. `i` is asked to
+// be one that there can be, here and below, as at `network_tables::demand`.
 fn in_set(set: u32, i: usize) -> bool
     requires { i < max_links }
     ensures { result ≡ in_set set i }

@@ -93,7 +93,8 @@ fn put_signals(whole: &Whole, half: &HalfTables, output: &mut Output)
     }
 }
 
-// A link as the half has it, if it is there: the rates of border movements are added to its exit rate.
+// A link as the half has it, if it is there: the rates of border movements are added to its exit rate. `i` is asked to be one that there can be, as at
+// `network_tables::demand`; so is `j` below.
 fn link_kept(i: usize, link: Link, rates: &[u64; MAX_LINKS], half: &HalfTables) -> Option<Link>
     requires { (i < max_links) × (link.signal ≤ max_signals) }
     ensures { result ≡ link_kept rates.now half.now i link }

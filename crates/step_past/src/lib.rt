@@ -10,8 +10,8 @@ ghost use Rattle.step_past.specs.Curves.{ReadAsked, CurveTo, Started, FindAsked,
 use network_tables::{Link, NetworkTables, PAST_SIZE};
 
 // What a link is waiting for: the step in which its travel time ends. If that is a past one, also what had entered the link by that step's start and by its end,
-// and the place of the `H` line after it. These three are no Option: check_plan would take 6,870 instructions on the corridor, whose bar is 6,800, and 1.456 times
-// the twin's on the largest, whose bar is 1.45 (docs/MEASUREMENTS.md).
+// and the place of the `H` line after it. These three are no Option: check_plan would take 126 instructions more on the corridor, past the bar of 6,800,
+// and 1.2 % more on the largest, past the bar of 1.45 times the twin's (docs/MEASUREMENTS.md).
 #[derive(Clone, Copy, Default)]
 pub struct Arrival {
     pub step: usize,
@@ -163,7 +163,7 @@ fn move_links(
     ensures { LinksMoved line.now tables.now since first arrivals.old arrivals.new }
 {
     let from = line.step - 1;
-    // By index: two tables go together.
+    // By index: it begins at `first`, and a link stands beside each.
     for i in first..tables.reading.counts.links {
         let arrival = arrivals[i];
         if (arrival.step == from) & (tables.links[i].travel_time <= since) {

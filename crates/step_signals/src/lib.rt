@@ -221,7 +221,7 @@ fn keeps_ordinary_rules(signal: &Signal, phase: u32, seconds: u32) -> bool
 
 // Whether a signal goes on with its phase, and neither the phase nor the cycle lasts too long. Then it keeps rules 10 to 14, as most do in most steps: without this
 // test the largest plan takes 3.7 % more, 1.49 x the twin, past the bar of 1.45 x. The sums are written out: with rule 13 by its own test it takes 1.2 % more, 1.46 x,
-// and the corridor's plan 6,812 instructions, past the bar of 6,800; rule 14's own test asks more yet, whether phase 1 begins again.
+// past that bar too; rule 14's own test asks more yet, whether phase 1 begins again.
 fn goes_on(signal: &Signal, phase: u32, seconds: u32) -> bool
     requires ready { Ready signal.now }
     requires phase_bound { phase ≤ 8 }
@@ -247,7 +247,7 @@ fn signal_keeps(signal: &Signal, phase: u32, asked: u32, seconds: u32) -> bool
 }
 
 // Whether all signals keep the six rules, in one pass over them: most steps break none, and then it doesn't matter which rule is asked first. The count stands beside the
-// tables here and below, since all have the same one and are whole.
+// tables, which all have it and are whole. By index: three of them go together.
 pub fn keeps_signal_rules(
     signals: &[Signal],
     count: usize,
@@ -284,17 +284,13 @@ pub fn hold_masks(signals: &[Signal], line: &mut [u32])
 }
 
 // Steps a signal on: where a tram asks a phase of it, its run and its clock stand still, and it goes on from the phase before the tram.
-// Written are the three numbers that change, 12 of a signal's 88 bytes: the whole signal in one store would be no plainer than their names.
 fn step_on(signal: &mut Signal, phase: u32, asked: u32, seconds: u32)
     requires ready { Ready signal.old }
     requires seconds_bound { seconds ≤ 60 }
     ensures { signal.new ≡ stepped signal.old phase asked seconds }
 {
     if asked == 0 {
-        let next = after(*signal, phase, seconds);
-        signal.shown = next.shown;
-        signal.shown_for = next.shown_for;
-        signal.cycle_clock = next.cycle_clock;
+        *signal = after(*signal, phase, seconds);
     }
 }
 

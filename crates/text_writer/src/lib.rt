@@ -72,8 +72,8 @@ impl Cursor<'_> {
     }
 }
 
-// Writes a record: a letter, the numbers, each behind a tab, and a line feed. Buffer and place are parameters, though a `Cursor` is a struct of both: whoever writes
-// several lines has the `Output` of network_writer for that; this is what it rests on, and keeps its contract.
+// Writes a record: a letter, the numbers, each behind a tab, and a line feed. Buffer and place are parameters, though a `Cursor` is a struct of both: the
+// contract is of the bytes alone, on which the `Output` of network_writer rests, and plancheck_report, whose totals it doesn't take.
 #[tactic(auto, using(crate::proofs::Laws::record_is))]
 pub fn write_record(out: &mut [u8], at: usize, letter: u8, numbers: &[u64]) -> usize
     requires { at + length (record_text letter numbers.now) ≤ length out.old }
