@@ -7,15 +7,12 @@ use native.Mathlib.Nat.{eq-or-lt_of_le, le_of_suc-le-suc}
 use native.Mathlib.Numerals.{add-one}
 use native.Mathlib.Omega.{arith}
 use lib.ListN.{length, get_or, set, take, drop, length-append, get_or-append, drop_of_length-le}
-use lib.Seq.{drop-cons, take_at, drop_at, set_at, get_or_at, get_or-append-add, get_or-drop, length-take-le}
+use lib.Seq.{drop-cons, take_at, drop_at, set_at, get_or_at, get_or-append-add, get_or-drop}
 use Rattle.base_laws.specs.Indexed.{list, filled}
 
 pub length_none : {A : Type 0} (xs : List A) → length xs ≡ 0 → xs ≡ []
 length_none [] e = refl
 length_none (x ∷ xs) e = absurd (omega arith)
-
-pub part_length : (xs : List ℕ) (n : ℕ) → n ≤ length xs → n ≡ length (take n xs)
-part_length xs n h = sym (length-take-le n xs h)
 
 -- what stands behind the first list, at its length plus k
 pub get_d-behind : {A : Type 0} (xs ys : List A) (n k : ℕ) (other : A) → length xs ≡ n → get_or (xs ++ ys) (n + k) other ≡ get_or ys k other

@@ -1,7 +1,7 @@
 -- The search for the first broken rule of a table, a turn at a time: every rule before the one that it is at holds of every item. And tables whose rules agree.
-use Rattle.base_laws.proofs.Kit.{ℕ, zero, suc, ◌+◌, ◌≤◌, ◌<◌, ◌≡◌, refl, sym, ap, ap₂, ◌∙◌, Bool, true, false, not, List, [], ◌∷◌, add-one, arith, not-true, not-false, length}
+use Rattle.base_laws.proofs.Kit.{ℕ, zero, suc, ◌+◌, ◌≤◌, ◌<◌, ◌≡◌, sym, ap, ap₂, ◌∙◌, Bool, true, false, not, List, [], ◌∷◌, add-one, arith, not-true, not-false, length}
 use borrow.Author.Count.{below_more}
-use Rattle.base_search.specs.Checks.{refusal, first_from, checked, verdict, Hold, Rule, rule_at, rules_from, table, Verdict}
+use Rattle.base_search.specs.Checks.{refusal, first_from, checked, verdict, Hold, Rule, rule_at, table, Verdict}
 use Rattle.base_search.proofs.Laws.{first-same, first-stop, first_passes, checked-passes, checked_refused}
 use Rattle.std.specs.Prelude.{Ok, Err}
 
@@ -11,21 +11,6 @@ item_verdict line rules place item = checked ((rule_at rules place).holds item) 
 
 abbrev rule_verdict : ℕ → List Rule → ℕ → Verdict
 rule_verdict line rules place = first_from (item_verdict line rules place) (rule_at rules place).items 0
-
--- a table by index
-pub rules-length : (f : ℕ → Rule) (n i : ℕ) → length (rules_from f n i) ≡ n
-unfolding rules_from
-rules-length f zero i = refl
-rules-length f (suc n) i = ap suc (rules-length f n (i + 1))
-
-rule-from : (f : ℕ → Rule) (n i k : ℕ) → k < n → rule_at (rules_from f n i) k ≡ f (i + k)
-unfolding rules_from
-rule-from f zero i k l = absurd (omega arith)
-rule-from f (suc n) i zero l = let e : i ≡ i + 0 = omega arith in ap f e
-rule-from f (suc n) i (suc k) l = let e : i + 1 + k ≡ i + suc k = omega arith in rule-from f n (i + 1) k (omega arith) ∙ ap f e
-
-pub rule-is : (f : ℕ → Rule) (n k : ℕ) → k < n → rule_at (rules_from f n 0) k ≡ f k
-rule-is f n k l = let e : 0 + k ≡ k = omega arith in rule-from f n 0 k l ∙ ap f e
 
 -- a rule holds of every item
 abbrev pub Kept : Rule → Type 0
@@ -39,9 +24,6 @@ pub record RulesKept (rules : List Rule) (place : ℕ) : Type 0 where
 pub record ItemsKept (rules : List Rule) (place item : ℕ) : Type 0 where
   pub before : RulesKept rules place
   pub kept : (i : ℕ) → i < item → (rule_at rules place).holds i ≡ true
-
-pub rules-none : (rules : List Rule) → RulesKept rules 0
-rules-none rules = record { kept = λ k l. absurd (omega arith) }
 
 pub items-none : {rules : List Rule} {place : ℕ} → RulesKept rules place → ItemsKept rules place 0
 items-none w = record { before = w; kept = λ i l. absurd (omega arith) }

@@ -1,5 +1,5 @@
 -- Checks in order, and the first of them that is broken.
-use Rattle.std.specs.Prelude.{◌≡◌, Result, Ok, Err, Bool, true, false, ◌⊎◌, List, [], ◌∷◌, ℕ, zero, suc, ◌+◌, ◌<◌, length, get_or}
+use Rattle.std.specs.Prelude.{◌≡◌, Result, Ok, Err, Bool, true, false, ◌⊎◌, List, ℕ, zero, suc, ◌+◌, ◌<◌, length, get_or}
 use Rattle.base_search.specs.declared.Refusal.{Refusal}
 
 -- What checks say: all pass, or the refusal of the first that does not.
@@ -60,11 +60,6 @@ no_rule = record { number = 0; items = 0; holds = λ i. true }
 
 abbrev pub rule_at : List Rule → ℕ → Rule
 rule_at rules k = get_or rules k no_rule
-
--- n rules by rising index: f i, f (i + 1), ..
-unfoldable pub rules_from : (ℕ → Rule) → ℕ → ℕ → List Rule
-rules_from f zero i = []
-rules_from f (suc n) i = f i ∷ rules_from f n (i + 1)
 
 -- the rules of a table in order, each over rising items, reported at one line
 unfoldable pub table : ℕ → List Rule → Checks

@@ -1,5 +1,6 @@
 -- What a proof above cites of lines and their places instead of opening the definitions.
-use Rattle.base_laws.proofs.Kit.{ℕ, zero, suc, ◌+◌, ◌-◌, ◌≤◌, ◌<◌, ◌≡◌, refl, sym, ap, ◌∙◌, Bool, true, false, cond, ◌&&◌, and-eq-true_iff, List, [], ◌∷◌, map, append-nil, add-one, add-zero, arith, eqb-true, eqb-false, eq-eqb, ne_eqb, leb-true, le-leb, eqb, leb, length, take, drop, get_or, length-drop, drop_of_length-le, List·getD-eq-default, drop-drop, get_or-drop}
+use Rattle.base_laws.proofs.Kit.{ℕ, zero, suc, ◌+◌, ◌-◌, ◌≤◌, ◌<◌, ◌≡◌, refl, sym, ap, ◌∙◌, Bool, true, false, cond, ◌&&◌, and-eq-true_iff, List, [], ◌∷◌, map, append-nil, add-one}
+use Rattle.base_laws.proofs.Kit.{add-zero, arith, eqb-true, eqb-false, eq-eqb, ne_eqb, leb-true, le-leb, eqb, leb, length, take, drop, get_or, length-drop, drop_of_length-le, List·getD-eq-default, drop-drop, get_or-drop}
 use Rattle.text_reader.specs.Field.{decimal, largest, digits, is_numeral, field_of}
 use Rattle.text_reader.specs.Lines.{Line, split, line_of, lines_of, lines, no_line, is_number, all_numbers, is_record, starts_as, number_of, number}
 use Rattle.text_reader.specs.Reading.{line_at, next_line, leading, leading_as, over, record_at, at_end, Starts, Got}

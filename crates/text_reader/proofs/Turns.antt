@@ -1,5 +1,6 @@
 -- The laws of the functions that go by places, each in the form of a need: what a loop's head, the tests and the calls say gives what is asked.
-use Rattle.base_laws.proofs.Kit.{ℕ, suc, ◌+◌, ◌-◌, ◌*◌, ◌≤◌, ◌<◌, ◌≡◌, refl, sym, ap, ◌∙◌, ◌≢◌, Bool, true, false, cond, not, ◌&&◌, and-false, and-true, and-eq-true_iff, List, [], ◌∷◌, arith, ℕ_discrete, dec_le, eq-eqb, ne_eqb, eqb-true, eqb-false, lt-leb, leb-true, leb-false, not-true, not-false, eqb, leb, eqb·suc-zero, length, drop, get_or, set, drop_of_length-le, List·getD-eq-default, drop-cons}
+use Rattle.base_laws.proofs.Kit.{ℕ, suc, ◌+◌, ◌-◌, ◌*◌, ◌≤◌, ◌<◌, ◌≡◌, refl, sym, ap, ◌∙◌, ◌≢◌, Bool, true, false, cond, not, ◌&&◌, and-false, and-true, and-eq-true_iff, List, [], ◌∷◌, arith, ℕ_discrete}
+use Rattle.base_laws.proofs.Kit.{dec_le, eq-eqb, ne_eqb, eqb-true, eqb-false, lt-leb, leb-true, leb-false, not-true, not-false, eqb, leb, eqb·suc-zero, length, drop, get_or, set, drop_of_length-le, List·getD-eq-default, drop-cons}
 use Rattle.text_reader.specs.declared.Numbers.{Numbers}
 use Rattle.text_reader.specs.declared.Numbers.TheVariants.{Last, More, Missing}
 use Rattle.text_reader.specs.Field.{digit, largest, field_of}
@@ -104,10 +105,6 @@ rest-empty text at = stop text at 10 0 at (saying-none text at)
 
 -- ---- the field after a tab
 module _ (text : List ℕ) (at : ℕ) where
-  pub tabbed-past : length text ≤ at → None ≡ tabbed_at text at
-  unfolding tabbed_at
-  tabbed-past h = rw (List·getD-eq-default text 0 h)
-
   pub tabbed-other : get_or text at 0 ≢ 9 → None ≡ tabbed_at text at
   unfolding tabbed_at
   tabbed-other h = rw (ne_eqb (get_or text at 0) 9 h)

@@ -1,13 +1,13 @@
 -- The laws of writing: what is written one behind the other is one text.
 use Rattle.std.proofs.Math.Nat.{one-le-pow}
-use Rattle.std.proofs.lemmas.List.Edits.{length-paste, take-paste, paste_all, paste-paste}
+use Rattle.std.proofs.lemmas.List.Edits.{length-paste, paste_all, paste-paste}
 use Rattle.std.proofs.Math.Seq.{paste}
 use Rattle.std.proofs.lemmas.List.{take-set-le, drop-set, at_drop_more, at_drop_all}
 use Rattle.std.proofs.lemmas.List.Concat.{length-flat_map}
 use Rattle.std.proofs.lemmas.List.Sums.{sum_by-le}
 use Rattle.std.specs.List.{sum_by}
 use Rattle.std.proofs.Math.Numerals.{one-add}
-use Rattle.base_laws.proofs.Kit.{ℕ, zero, suc, ◌+◌, ◌-◌, ◌*◌, ◌/◌, ◌%◌, ◌^◌, ◌≤◌, ◌<◌, ◌≡◌, refl, sym, ap, ap₂, ◌∙◌, max, List, [], ◌∷◌, ◌++◌, append_assoc, add-zero, add-one, dec_le, pow-suc, arith, lt-ltb, le-ltb, length, get_or, take, drop, set, length-append, take-append-drop, set_split, take-length}
+use Rattle.base_laws.proofs.Kit.{ℕ, zero, suc, ◌+◌, ◌-◌, ◌*◌, ◌/◌, ◌%◌, ◌^◌, ◌≤◌, ◌<◌, ◌≡◌, refl, sym, ap, ap₂, ◌∙◌, max, List, [], ◌∷◌, ◌++◌, append_assoc, add-zero, add-one, dec_le, pow-suc, arith, lt-ltb, le-ltb, length, get_or, drop, set, length-append, take-append-drop, set_split}
 use Rattle.text_writer.specs.Records.{numeral, field_text, field_texts, record_text, record_texts}
 use Rattle.text_writer.specs.Writing.{put_at, Wrote}
 
@@ -60,10 +60,6 @@ module _ (at : ℕ) (old : List ℕ) where
 
   pub put-length : (text : List ℕ) → at + length text ≤ length old → length (put_at at text old) ≡ length old
   put-length text h = rw put-paste (length-paste old at text (length text) h (omega arith))
-
-  -- a text that ends at p, with its front taken
-  pub put-take : (a : List ℕ) → at + length a ≤ length old → take (at + length a) (put_at at a old) ≡ take at old ++ a
-  put-take a h = rw put-paste (take-paste old at a (length a) (omega arith) (omega arith) ∙ ap (λ x. take at old ++ x) (take-length a))
 
   -- one text behind another
   pub put-more : (a b : List ℕ) → at + length a + length b ≤ length old → put_at (at + length a) b (put_at at a old) ≡ put_at at (a ++ b) old
