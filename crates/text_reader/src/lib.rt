@@ -20,7 +20,7 @@ struct FieldNumber {
 }
 
 // The number of the field after a tab, and which byte ends that field. No `Option`: where the byte behind a number is tested again for the next one, the largest
-// check_plan takes 4.9 % more instructions, and misses the bar of 1.45 x the twin (bench/twin.c).
+// plan misses the bar of 1.45 x the twin (bench/twin.c).
 #[derive(Clone, Copy)]
 enum Ended {
     ByTab(FieldNumber),
@@ -37,7 +37,7 @@ enum Numbers {
     Missing,
 }
 
-// On 32 bits: by `is_ascii_digit` of the byte the largest check_plan takes 5 to 8 % more instructions, and misses the bar of 1.45 x the twin (bench/twin.c).
+// On 32 bits: by `is_ascii_digit` of the byte the largest plan misses the bar of 1.45 x the twin (bench/twin.c).
 fn is_digit(b: u32) -> bool
     ensures { result ≡ digit b }
 {
@@ -134,8 +134,7 @@ fn guarded_numbers_at(text: &[u8], at: usize, out: &mut [u32]) -> Numbers
 // The number of the digits at a place, ten at most, and the place behind them, in a text that a line feed ends. The line feed is the sentinel: no digit is
 // the last byte, so no place is held against the end. Each of the three functions that rest on it asks for it: a struct that lends such a text would be taken
 // apart in each of them, to read at a place, and say the fact no shorter. By index: by an iterator over the rest, which asks for its end at each digit, the
-// largest check_plan takes 24 % more instructions, and misses the bar of 1.45 x the twin (bench/twin.c). The compiler unrolls the loop and finds that only a
-// tenth digit can lack room.
+// largest plan misses the bar of 1.45 x the twin (bench/twin.c). The compiler unrolls the loop and finds that only a tenth digit can lack room.
 fn sentinel_digits_from(text: &[u8], from: usize) -> Option<FieldNumber>
     requires from_in_bounds { from < length text.now }
     requires text_value { get_or text.now (length text.now - 1) 0 ≡ 10 }
