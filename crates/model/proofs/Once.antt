@@ -1,5 +1,6 @@
 -- Between a green of a phase and its next green every other phase has exactly one green.
-use Rattle.base_laws.proofs.Kit.{◌≡◌, refl, sym, ◌∙◌, true, ◌⊎◌, inl, inr, ⊎_elim, ◌≢◌, List, [], ◌∷◌, ◌++◌, List-as-Memᴰ, Memᴰ·append-left, Memᴰ·append-right, List·Memᴰ·append-cases, List·Memᴰ·cases-cons, List·Memᴰ·not-nil, List·Memᴰ·head, List·Memᴰ·tail, ℕ, zero, suc, ◌+◌, ◌-◌, ◌≤◌, ◌<◌, eq-or-lt_of_le, le_refl, dec_le, arith}
+use Rattle.base_laws.proofs.Kit.{◌≡◌, refl, sym, ◌∙◌, true, ◌⊎◌, inl, inr, ⊎_elim, ◌≢◌, List, [], ◌∷◌, ◌++◌, List-as-Memᴰ, Memᴰ·append-left, Memᴰ·append-right, List·Memᴰ·append-cases}
+use Rattle.base_laws.proofs.Kit.{List·Memᴰ·cases-cons, List·Memᴰ·not-nil, List·Memᴰ·head, List·Memᴰ·tail, ℕ, zero, suc, ◌+◌, ◌-◌, ◌≤◌, ◌<◌, eq-or-lt_of_le, le_refl, dec_le, arith}
 use Rattle.text_reader.specs.Lines.{Line}
 use Rattle.model.specs.Network.{signal_count, signal}
 use Rattle.model.specs.Guarantees.{is_ordinary, NoneBetween, Green, Greens, done, more, Red, rising, others}
