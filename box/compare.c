@@ -1,5 +1,5 @@
 /*
- * Asks every call of a box INPUTS inputs and prints a hash of all answers, ledgers and texts, and how often each number was told. The inputs are the texts of
+ * Asks every call of a box INPUTS inputs and prints a hash of all answers, ledgers and texts, and how often each number was returned. The inputs are the texts of
  * inputs.h, most of them damaged, by a seed; so the program prints the same wherever the library does the same. First it asks every call about what is empty, by NULL and by an address
  * where a board has no memory.
  */

@@ -135,7 +135,7 @@ static uint32_t always_1(uint32_t bound)
     return 1;
 }
 
-/* The system timer counts down 24 bits, and tells when it has come to 0. */
+/* The system timer counts down 24 bits, and sets a flag when it has come to 0. */
 #define TIMER ((volatile uint32_t *)0xE000E010)
 enum { CONTROL, RELOAD, CURRENT, TIMER_BITS = 0xffffff, STARTED = 5, CAME_TO_0 = 1 << 16 };
 

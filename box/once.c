@@ -1,4 +1,4 @@
-/* One plan check, of the first text of inputs.h: what is run in it is told by qemu. */
+/* One plan check, of the first text of inputs.h: qemu reports what is run in it. */
 #include "inputs.h"
 #include "plancheck.h"
 

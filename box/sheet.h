@@ -9,7 +9,7 @@
 enum { SHEET_ROOM = 8 * (1 + 8 * 5 + 1) + 16 };
 
 /*
- * Writes a line for each G line of a valid network, and tells its length. A phase lasts its least or its greatest time,
+ * Writes a line for each G line of a valid network, and returns its length. A phase lasts its least or its greatest time,
  * which stand in the fields from the eighth on, by pairs: below(2) is 0 for the least. Padding is left out.
  */
 static size_t write_sheet(const uint8_t *network, size_t network_len, uint8_t *sheet, uint32_t (*below)(uint32_t))

@@ -2,7 +2,7 @@
  * fuzz EXAMPLES COUNT SEED: asks every call of the library COUNT times in all, with inputs made from the examples, each buffer between two pages that nothing may
  * touch, and texts that nothing may write. Of every answer it is asked that
  *   - it is the same wherever the buffers stand, and whatever the ledger or the buffer held before;
- *   - its number is one that the call tells, and all else is 0 where it is not 0;
+ *   - its number is one that the call may return, and all else is 0 where it is not 0;
  *   - only the rows of the boundaries that passed, or the bytes of the text that was written, have changed;
  *   - a network that is carried on is valid, and has the steps that are left;
  *   - the halves of a split have what the whole has, and where the whole is accepted both are, and their times add up;
@@ -39,7 +39,7 @@ static void tell_input(void)
         }                                                                                                                                                      \
     } while (0)
 
-/* How often each number was told. */
+/* How often each number was returned. */
 static uint64_t told[43];
 
 static void count_number(uint32_t number)

@@ -145,7 +145,7 @@ extern "C" {
 #define PLANCHECK_BOX
 #endif
 
-/* The version of the calls, of their answers and of the texts (CHANGELOG.md); plancheck_version tells the library's. */
+/* The version of the calls, of their answers and of the texts (CHANGELOG.md); plancheck_version returns the library's. */
 #define PLANCHECK_VERSION_MAJOR 0
 #define PLANCHECK_VERSION_MINOR 3
 #define PLANCHECK_VERSION_PATCH 0
@@ -212,7 +212,7 @@ enum plancheck_number {
        without a signal, or is 0 or names a phase above P with one; standing volume above capacity. Item: link. */
     PLANCHECK_LINK_VALUES = 4,
     /* A link not 1 to L; from equal to to; rate not 1 to 10000; share not 1 to 1000; (from, to) not above the pair
-       before; or the shares of a link do not sum to 1000, told at its last movement. Item: movement. */
+       before; or the shares of a link do not sum to 1000, reported at its last movement. Item: movement. */
     PLANCHECK_MOVEMENT_VALUES = 5,
     /* Length not 1 to 60, or above the greatest time of some phase; a demand above 600000. Item: step. */
     PLANCHECK_STEP_VALUES = 6,
@@ -291,7 +291,7 @@ enum plancheck_number {
     /* A line is missing, unfinished, surplus, has a wrong letter, a bad number or a wrong number of fields, a duration is
        outside its phase's limits, or an offset is not below the sum of the durations. Judged before 8. No item. */
     PLANCHECK_SHEET_VALUES = 33,
-    /* A run of the accepted plan has another duration; told at the line of its last step that no tram claims, earliest
+    /* A run of the accepted plan has another duration; reported at the line of its last step that no tram claims, earliest
        first, then lowest signal. Item: signal. */
     PLANCHECK_SHEET_NOT_KEPT = 34,
     /* No plan can be written: a run of the signal ends before the horizon but on no boundary, or a tram claims the signal.
@@ -469,7 +469,7 @@ PLANCHECK_ASSERT(cells_flows, offsetof(plancheck_cells_result, flow_in) == 16);
 #undef PLANCHECK_ASSERT
 
 /*
- * Tells the version of the library that is linked: PLANCHECK_VERSION_MAJOR, _MINOR and _PATCH of its own header.
+ * Returns the version of the library that is linked: PLANCHECK_VERSION_MAJOR, _MINOR and _PATCH of its own header.
  */
 plancheck_version_result plancheck_version(void);
 
@@ -481,7 +481,7 @@ plancheck_version_result plancheck_version(void);
 plancheck_network_result plancheck_check_network(const uint8_t *network, size_t network_len);
 
 /*
- * Checks a network text and tells what a valid one has: links, signals, movements, steps, tram lines and past steps, as
+ * Checks a network text and returns what a valid one has: links, signals, movements, steps, tram lines and past steps, as
  * its N line says. Refusals 1 to 6, 28 and 30. A ledger of PLANCHECK_LEDGER_LEN(links, steps) numbers is enough for it.
  *
  * Reads network[0 .. network_len - 1]. Writes nothing.
@@ -507,21 +507,21 @@ plancheck_plan_result plancheck_check_plan(const uint8_t *network, size_t networ
 
 /*
  * Checks whether a plan is accepted and keeps a fixed-time sheet, and fills the ledger. Refusals 1 to 6, 28 and 30 of the
- * network, then 33 of the sheet line by line, then 8 and those of the plan as plancheck_check_plan tells them, and last 34.
+ * network, then 33 of the sheet line by line, then 8 and those of the plan as plancheck_check_plan returns them, and last 34.
  *
  * A run is a longest sequence of steps in which a signal shows one phase, steps that a tram claims left out. Each run that
  * begins in the plan and is left in it must last just the phase's duration; one that starts at a time below the signal's
  * greatest cycle is exempt.
  *
  * Reads the three texts. Writes the ledger as plancheck_check_plan does: no row for 33, all rows for 34 and for a plan that
- * keeps the sheet, which is told with its totals.
+ * keeps the sheet, and is returned with its totals.
  */
 plancheck_plan_result plancheck_check_sheet(const uint8_t *network, size_t network_len, const uint8_t *plan,
                                             size_t plan_len, const uint8_t *sheet, size_t sheet_len, uint32_t *ledger,
                                             size_t ledger_len);
 
 /*
- * Tells what stands on one link at one boundary, from the ledger of an accepted plan. Refusals 1 to 6, 28 and 30 of the
+ * Returns what stands on one link at one boundary, from the ledger of an accepted plan. Refusals 1 to 6, 28 and 30 of the
  * network, then 8, 19, 20 and 21. Where the travel time ends inside a step, the elapsed part of what entered in it has
  * arrived, taken evenly; what is queued is rounded down, and the rest is in transit.
  *
@@ -552,7 +552,7 @@ plancheck_text_result plancheck_carry_on(const uint8_t *network, size_t network_
 #ifndef PLANCHECK_BOX
 
 /*
- * Tells which of two plans for one network is ahead, and by how much its travel time is the lesser, and fills a ledger for
+ * Says which of two plans for one network is ahead, and by how much its travel time is the lesser, and fills a ledger for
  * each plan. Refusals: those of the network, then all of the first plan's, its ledger's length (8) among them, then the
  * second plan's; plan says whose it is. A first plan that is ahead has a negative gap, one that is equal the gap 0; of
  * plans that cross the gap may be of either sign, or 0. An empty plan text means hold, as in plancheck_check_plan.

@@ -55,7 +55,7 @@ enum answer { ACCEPTED, STATE, REFUSED, WRITTEN, COMPARED, SPLIT, RAN, ANSWERS }
 static const char *const answer_words[ANSWERS] = {"accepted", "state", "refused", "written",
                                                   "compared", "split", "ran"};
 
-/* An answer: what is expected, and what the library told. */
+/* An answer: what is expected, and what the library returned. */
 struct told {
     uint32_t answer; /* of enum answer */
     uint64_t numbers[MOST_NUMBERS];
@@ -431,7 +431,7 @@ static struct told answered(uint32_t number, uint32_t line, uint32_t item, uint3
     return told;
 }
 
-/* The same refusal, or none, must be told with the counts. */
+/* The counts must have the same refusal, or none. */
 static struct told ask_check_network(void)
 {
     plancheck_network_result result = plancheck_check_network(network.bytes, network.length);

@@ -42,7 +42,7 @@ fn folder_beside() -> PathBuf {
 }
 
 /// The folder, from the root. A build script stands in its package's folder; a relative name is meant from where cargo was
-/// started, which the shell tells in `PWD`.
+/// started, which the shell has in `PWD`.
 fn named_folder(named: &Path) -> Result<PathBuf, String> {
     let from = if named.is_relative() {
         println!("cargo:rerun-if-env-changed=PWD");

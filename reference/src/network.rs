@@ -177,7 +177,7 @@ impl Network {
     }
 
     /// Refusal 28 after the last `G` line: a tram asks for a phase that its
-    /// signal hasn't; told at the tram's line.
+    /// signal hasn't; reported at the tram's line.
     fn judge_tram_phases(&self) -> Result<(), Refusal> {
         for (index, tram) in self.trams.iter().enumerate() {
             let phases = &self.signals[tram.signal as usize - 1].phases;
@@ -199,7 +199,7 @@ impl Network {
     }
 
     /// Refusal 5 after all `M` lines: by rising link that has movements, the
-    /// shares of the movements from it sum to 1000; told at its last movement.
+    /// shares of the movements from it sum to 1000; reported at its last movement.
     fn judge_share_sums(&self) -> Result<(), Refusal> {
         for link in 1..=self.links.len() as u64 {
             let mut sum = 0;
@@ -365,7 +365,7 @@ fn read_tram(line: &Line, counts: &Counts, before: &[Tram]) -> Result<Tram, Refu
     }
 }
 
-/// A `G` line. With seven good fields a bad number of phases is told before
+/// A `G` line. With seven good fields a bad number of phases is reported before
 /// anything later in the line, as it decides how many fields there are.
 fn read_signal(line: &Line, item: u64) -> Result<Signal, Refusal> {
     let unacceptable = Refusal::new(3, line.number, item);

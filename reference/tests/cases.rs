@@ -140,7 +140,7 @@ impl Traffics {
     }
 }
 
-/// The number of a refusal, whichever plan it is told of.
+/// The number of a refusal, whichever plan it is about.
 fn refused_number(answer: &Answer) -> Option<u64> {
     match answer {
         Answer::Refused(refusal) => Some(refusal.number),

@@ -45,7 +45,7 @@ fn files_that_cannot_be_read() {
     fs::write(folder.join("plan.tsv"), PLAN).unwrap();
     assert_eq!(printed(&folder), "L\t1\n");
     fs::remove_file(folder.join("plan.tsv")).unwrap();
-    // A missing plan is told even where the network is bad.
+    // A missing plan is reported even where the network is bad.
     for network in [NETWORK, "bad"] {
         fs::write(folder.join("network.tsv"), network).unwrap();
         assert_eq!(printed(&folder), "L\t2\n");

@@ -9,7 +9,7 @@ pub enum Ended {
     Done,
     /// The library refused a text.
     Refused,
-    /// Something was not read, which has been told; the rest is done.
+    /// Something was not read, which has been printed; the rest is done.
     Unread,
 }
 
@@ -29,7 +29,7 @@ impl From<io::Error> for Problem {
     }
 }
 
-/// One command: its name, its arguments as the usage tells them, what it does, and the function that does it. `workbench/run`
+/// One command: its name, its arguments as the usage prints them, what it does, and the function that does it. `workbench/run`
 /// reads the three texts here too, each on one line, for help before anything is built.
 pub struct Command {
     pub name: &'static str,

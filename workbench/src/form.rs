@@ -54,7 +54,7 @@ pub fn of_sheet(network: &Network, sheet: &[u8], line: usize, has_offset: bool) 
     faults(sheet, line, &due)
 }
 
-/// The faults of a line of a corridor in cells: what is due there is told by its letter, and by the lines before it.
+/// The faults of a line of a corridor in cells: what is due there depends on its letter and on the lines before it.
 pub fn of_corridor(text: &[u8], line: usize) -> Vec<Fault> {
     let letters: Vec<u8> = lines(text).into_iter().map(|bytes| record(bytes).letter).collect();
     let before = &letters[..letters.len().min(line.saturating_sub(1))];
@@ -79,7 +79,7 @@ pub fn of_network(text: &[u8], line: usize) -> Vec<Fault> {
     faults(text, line, &due)
 }
 
-/// What the `N` line has due at a line of a network; nothing where it is malformed, which is told at itself.
+/// What the `N` line has due at a line of a network; nothing where it is malformed, which is reported at that line.
 fn due_in_network(text: &[u8], line: usize) -> Option<Due> {
     let all = lines(text);
     let counts: [u32; 6] = record(all.first()?).numbers.try_into().ok()?;

@@ -1,4 +1,4 @@
-//! A plan judged on its network, with all that the library tells of it. Every number here comes from a call of the library;
+//! A plan judged on its network, with all that the library says of it. Every number here comes from a call of the library;
 //! the texts give what they say themselves: lengths, masks, limits.
 
 use crate::files::Texts;
@@ -153,7 +153,7 @@ pub fn arrived_by_the_end(texts: &Texts, run: &Run, link: usize) -> Option<u64> 
 }
 
 /// The totals at each boundary that passed: those of the plan's first lines on the network cut to as many steps. What is
-/// under way, inside or waiting outside, is told by the doubled travel time: each step adds its length times what is under
+/// under way, inside or waiting outside, is had from the doubled travel time: each step adds its length times what is under
 /// way at its start and at its end. Who waits outside at boundary 0 stands in the `Q` lines.
 fn running(texts: &Texts, network: &Network, volumes: &[Vec<Volumes>], passed: usize) -> Result<Vec<Running>, Refusal> {
     let mut totals = Totals {

@@ -14,7 +14,7 @@ pub struct Names {
 }
 
 impl Names {
-    /// The names of a file beside a network, where it is a file; what is wrong with them is told, and the rest taken.
+    /// The names of a file beside a network, where it is a file; what is wrong with them is reported, and the rest is taken.
     pub fn beside(path: &Path, network: Option<&Network>) -> Names {
         if path == Path::new(INPUT) {
             return Names::default();
@@ -34,7 +34,7 @@ impl Names {
         names
     }
 
-    /// Reads names for so many links and signals, and tells what is wrong with lines.
+    /// Reads names for so many links and signals, and reports what is wrong with lines.
     fn read(text: &[u8], counts: [usize; 2]) -> (Names, Vec<String>) {
         let (mut names, mut faults) = (Names::default(), Vec::new());
         for (place, line) in String::from_utf8_lossy(text).lines().enumerate() {

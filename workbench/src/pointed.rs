@@ -85,7 +85,7 @@ pub fn quoted(text: Text, bytes: &[u8], line: usize, marked: &[usize]) -> Pointe
 }
 
 impl Pointed {
-    /// The line as it is told on a terminal, marked fields in brackets.
+    /// The line as it is printed on a terminal, marked fields in brackets.
     pub fn words(&self) -> String {
         let shown = match &self.fields {
             Fields::Missing(why) => (*why).to_string(),

@@ -1,4 +1,4 @@
-//! What a run adds up to for a link and for a vehicle, from what the library tells of each boundary. A curve is straight within
+//! What a run adds up to for a link and for a vehicle, from what the library says of each boundary. A curve is straight within
 //! a step, as the travel time takes it: a step adds its length times the mean of what stood at its start and at its end.
 
 use crate::judge::Run;
@@ -63,7 +63,7 @@ pub fn of_vehicles(run: &Run) -> Option<[Spent; 2]> {
     Some([last.totals.doubled_time, delay].map(|doubled_time| Spent { doubled_time, volume }))
 }
 
-/// Twice the time that volumes, told at each boundary that passed, spend.
+/// Twice the time that volumes, known at each boundary that passed, spend.
 fn doubled_time(run: &Run, volumes: &[u64]) -> u64 {
     let steps = run.network.steps.iter().zip(volumes.windows(2));
     steps

@@ -1,5 +1,5 @@
 //! Why a step is refused: the numbers that its rule compares. What the step's line and the limits are stands in the texts; what
-//! stood before the step, and what arrives in it, the library tells.
+//! stood before the step, and what arrives in it, comes from the library.
 
 use crate::files::Texts;
 use crate::judge::{arrived_by_the_end, Run};

@@ -176,7 +176,7 @@ pub fn faults(refusal: &Refusal, texts: &Texts, network: Option<&Network>) -> Ve
     of_network.into_iter().chain(of_plan).map(|fault| fault.words).collect()
 }
 
-/// What the library tells of the link that breaks a rule, at the start of the step.
+/// What the library says of the link that breaks a rule, at the start of the step.
 pub fn before_the_step(refusal: &Refusal, run: &Run) -> Option<String> {
     let index = (refusal.item as usize).checked_sub(1)?;
     let link = match refusal.item_kind()? {

@@ -1,4 +1,4 @@
-//! Judges a folder's plan on its network, and tells what queues on each link at each boundary:
+//! Judges a folder's plan on its network, and prints what queues on each link at each boundary:
 //!
 //! ```text
 //! cargo run --example judge -- ../../examples/avenue

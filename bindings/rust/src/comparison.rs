@@ -42,11 +42,11 @@ pub enum Refused {
 pub struct ComparisonRefusal {
     /// Whose refusal it is.
     pub of: Refused,
-    /// The refusal, as [`check_plan`](crate::check_plan) tells it.
+    /// The refusal, as [`check_plan`](crate::check_plan) returns it.
     pub refusal: Refusal,
 }
 
-/// Tells which of two plans for one network is ahead, and fills a ledger for each plan.
+/// Says which of two plans for one network is ahead, and fills a ledger for each plan.
 ///
 /// Each ledger gets the rows that [`check_plan`](crate::check_plan) would write, the second plan's only where the first
 /// plan is accepted. An empty plan text means hold.

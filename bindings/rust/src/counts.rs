@@ -27,7 +27,7 @@ impl Counts {
     }
 }
 
-/// Checks a network text, and tells what a valid one has.
+/// Checks a network text, and returns what a valid one has.
 ///
 /// # Errors
 ///
@@ -68,7 +68,7 @@ pub struct Version {
     pub patch: u32,
 }
 
-/// Tells the version of the library that is linked. That of the crate is the package's own.
+/// Returns the version of the library that is linked. That of the crate is the package's own.
 ///
 /// ```
 /// let version = plancheck::library_version();

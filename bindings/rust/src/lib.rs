@@ -161,7 +161,7 @@ pub fn check_plan(network: &[u8], plan: &[u8], ledger: &mut [u32]) -> Result<Tot
     totals(&result)
 }
 
-/// Tells what stands on one link at one boundary, from the ledger of an accepted plan. Boundaries are counted from 0,
+/// Returns what stands on one link at one boundary, from the ledger of an accepted plan. Boundaries are counted from 0,
 /// links from 1. Where the travel time ends inside a step, the elapsed part of what entered in it has arrived; what is
 /// queued is rounded down, and the rest is in transit.
 ///

@@ -48,7 +48,7 @@ fn number(digits: &[u8]) -> Option<u32> {
     u32::try_from(digits.iter().fold(0, add)).ok()
 }
 
-/// How many there are, as a text tells it.
+/// How many there are, as a text has it.
 pub(crate) fn count<T>(items: &[T]) -> u32 {
     u32::try_from(items.len()).unwrap_or(u32::MAX)
 }

@@ -4,7 +4,7 @@ use core::fmt;
 
 /// Why a call declined: the number of the refusal, and the line and the item that it names.
 ///
-/// Lines and items are counted from 1; 0 where none is named. [`Refusal::reason`] gives the number a name, and tells
+/// Lines and items are counted from 1; 0 where none is named. [`Refusal::reason`] gives the number a name, and says
 /// which text the line belongs to and what the item counts.
 ///
 /// `Display` says it in words:

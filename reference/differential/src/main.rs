@@ -1,7 +1,7 @@
 //! Compares the C library with the other implementation: each answer, every number of the ledger and every byte of the buffer after the call.
 //!
 //! `differential COUNT SEED`: at least COUNT inputs, made from SEED. The inputs of round n are those of the seed SEED + n, so that a
-//! difference can be found again by itself: `differential 1 SEED` with the seed that is told.
+//! difference can be found again by itself: `differential 1 SEED` with the seed that is printed.
 
 mod compare;
 // Each of the comparing programs calls a part of the library.

@@ -1,6 +1,6 @@
 //! Writes the stored corridors in cells, judged by this implementation, and two
 //! with a wrong answer on purpose, so that a program that compares stored corridors
-//! can show that it tells a difference.
+//! can show that it notices a difference.
 //!
 //! `corridor_cases SEED CASES WRONG`: the two files. A corridor whose answer is
 //! known from its making is held to it, and nothing is written if one has another.

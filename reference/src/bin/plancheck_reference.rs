@@ -26,7 +26,7 @@ fn output(folder: &Path) -> Vec<u8> {
 /// or read.
 fn read_up_to(path: &Path, limit: usize) -> Option<Vec<u8>> {
     let mut bytes = Vec::new();
-    // One byte more than allowed tells a file that is too long.
+    // One byte more than allowed shows that a file is too long.
     let mut reader = File::open(path).ok()?.take(limit as u64 + 1);
     reader.read_to_end(&mut bytes).ok()?;
     if bytes.len() > limit {

@@ -1,6 +1,6 @@
 //! Writes the stored splits, judged by this implementation, and two with a wrong
 //! answer on purpose, so that a program that compares stored splits can show that it
-//! tells a difference.
+//! notices a difference.
 //!
 //! `split_cases SEED CASES WRONG`: the two files. A split that is not what it was
 //! made for shows a fault in the maker or in the judge, and nothing is written.

@@ -1,6 +1,6 @@
 //! Writes the stored steps of vehicles, judged by this implementation, and two with
 //! a wrong answer on purpose, so that a program that compares stored steps can show
-//! that it tells a difference.
+//! that it notices a difference.
 //!
 //! `street_cases SEED CASES WRONG`: the two files. A step whose places are known from
 //! its making is held to them, and nothing is written if one has others.
@@ -27,7 +27,7 @@ fn main() -> ExitCode {
     ExitCode::SUCCESS
 }
 
-/// A refusal told with the other number, and a vehicle that ends at the zero of the
+/// A refusal reported with the other number, and a vehicle that ends at the zero of the
 /// other sign.
 fn wrong_answers() -> Vec<StreetCase> {
     let street = Street::new(&[f64::NAN], &[1.0], &[], 0.0);

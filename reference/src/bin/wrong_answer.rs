@@ -1,5 +1,5 @@
 //! Writes a file of one stored case with a wrong answer on purpose, so that a
-//! program that compares stored cases can show that it tells a difference.
+//! program that compares stored cases can show that it notices a difference.
 //!
 //! `wrong_answer [file]`: the file is `wrong_answer.bin` if none is given. The
 //! case is a plan check with empty texts and an empty ledger: what is stored

@@ -99,7 +99,7 @@ pub fn stored_corridors(seed: u64) -> Vec<CorridorCase> {
     maker.cases
 }
 
-/// Runs that are known, among them one that tells flows of the volumes before the
+/// Runs that are known, among them one that distinguishes flows of the volumes before the
 /// step from such of volumes already changed.
 fn runs(maker: &mut Maker) {
     for (text, totals) in [

@@ -1,5 +1,5 @@
 //! Networks and plans that one call refused, asked of the later calls too: each
-//! number of a network and of a plan is told by every call that judges one.
+//! number of a network and of a plan is reported by every call that judges one.
 
 use super::sheet_calls::sheet;
 use super::{Answer, Buffer, Call, Draft, Ledger, Maker, Question, Texts};

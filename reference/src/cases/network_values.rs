@@ -498,7 +498,7 @@ pub fn movements(maker: &mut Maker, scenario: &Scenario) {
         }
     }
 
-    // Share sums, told at the link's last movement.
+    // Share sums, reported at the link's last movement.
     let last_of = |from: u64| {
         network
             .movements
@@ -587,7 +587,7 @@ fn with_wrong_share(network: &Network, movement: usize) -> Network {
 }
 
 /// The last movement of the first link that has movements: with all shares
-/// changed every link's sum is wrong, and the first link is told.
+/// changed every link's sum is wrong, and the first link is reported.
 fn last_of_wrong_sum(network: &Network) -> usize {
     let first = network.movements[0].from;
     let same_link = network.movements.iter().filter(|other| other.from == first);
@@ -680,7 +680,7 @@ fn let_phases_last(network: &mut Network) {
 }
 
 /// Two fields of the network text that are bad each by itself: the earlier
-/// line is told, and in one line the form before the values.
+/// line is reported, and in one line the form before the values.
 pub fn two_breaches(maker: &mut Maker, scenario: &Scenario) {
     let sheet = Sheet::of_network(&scenario.network);
     for _ in 0..12 {

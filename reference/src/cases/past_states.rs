@@ -1,4 +1,4 @@
-//! States whose arrivals entered in the past, which the network alone tells.
+//! States whose arrivals entered in the past, which only the network has.
 
 use super::{refused, Answer, Maker, Scenario};
 use crate::State;

@@ -29,7 +29,7 @@ enum Field {
 }
 
 impl Breach {
-    /// A value that breaks a rule in its own step, told at the value's item.
+    /// A value that breaks a rule in its own step, reported at the value's item.
     fn at_once(rule: u64, name: &'static str, step: usize, field: Field, value: u64) -> Breach {
         let (Field::Mask(item) | Field::Admitted(item) | Field::LetOut(item) | Field::Moved(item)) =
             field;

@@ -353,7 +353,7 @@ fn planned(
     Ok(plan)
 }
 
-/// Cases worked out by hand: which run is told, and the ends of a sheet.
+/// Cases worked out by hand: which run is reported, and the ends of a sheet.
 pub fn special_sheets(maker: &mut Maker) {
     // Two lights, steps of 10 seconds. Light 2's run of phase 2 ends with step
     // 8, but trams hide until step 12 that it is left; light 1's ends with step

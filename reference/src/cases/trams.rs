@@ -120,7 +120,7 @@ fn refused_at_once(maker: &mut Maker, scenario: &Scenario, tram: &Tram) {
         ask(maker, scenario, name, &network, refused(28, line, 0));
     }
     // The same step again, of another phase; and of a phase that isn't there,
-    // which would be told later.
+    // which would be reported later.
     for phase in [2, 9] {
         let (network, _) = with_tram(&scenario.network, tram.clone());
         if network.trams.len() < 16 {

@@ -515,7 +515,7 @@ fn r5_rate_and_share() {
     assert_network_accepted(&network().set(7, 4, 1).text());
     assert_network_accepted(&network().set(7, 4, 10_000).text());
     assert_network_refused(&network().set(7, 4, 10_001).text(), 5, 7, 1);
-    // A share that is bad by itself is told at its own line.
+    // A share that is bad by itself is reported at its own line.
     assert_network_refused(&network().set(7, 5, 0).set(8, 5, 1000).text(), 5, 7, 1);
     assert_network_accepted(&network().set(7, 5, 1).set(8, 5, 999).text());
     assert_network_refused(&network().set(9, 5, 1001).text(), 5, 9, 3);
@@ -628,7 +628,7 @@ fn every_travel_time_from_1_to_3600_passes() {
 
 #[test]
 fn two_breaches_in_different_lines() {
-    // The earlier line is told.
+    // The earlier line is reported.
     let text = network().set(2, 5, 0).set(3, 5, 0).text();
     assert_network_refused(&text, 3, 2, 1);
     let text = network().set(5, 3, 0).set(4, 7, 60_001).text();

@@ -296,7 +296,7 @@ fn the_state_call_reads_the_network_alone_before_time_0() {
 
 #[test]
 fn the_state_call_reads_row_0_at_time_0() {
-    // Link 3 takes 20 seconds: at 20 seconds row 0 tells, not the past.
+    // Link 3 takes 20 seconds: at 20 seconds row 0 counts, not the past.
     let network = with_past(&["H 10 0 0 0 0 300 0"]).text();
     let mut ledger = [0; NEED];
     ledger[4] = 5;

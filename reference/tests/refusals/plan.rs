@@ -222,7 +222,7 @@ fn r10_masks() {
             assert_plan_refused(&network, &text, 10, line as u64, 2);
         }
     }
-    // Both signals: the first is told.
+    // Both signals: the first is reported.
     let text = plan().set(2, 2, 0).set(2, 3, 0).text();
     assert_plan_refused(&network, &text, 10, 2, 1);
 }
@@ -350,7 +350,7 @@ fn r14_greatest_cycle() {
 #[test]
 fn r14_signal_by_signal() {
     // In step 4 signal 1 is above its greatest cycle and signal 2 below its
-    // least; the first signal is told.
+    // least; the first signal is reported.
     let network = network().set(2, 3, 39).set(3, 2, 36).text();
     assert_plan_refused(&network, &plan().text(), 14, 4, 1);
 }
@@ -392,7 +392,7 @@ fn r15_what_was_not_admitted_waits() {
     assert_plan_refused(&text, &parts.set(3, 6, 1).text(), 15, 3, 3);
     // Demand of a later step can't be had before: link 2's 200 of step 3.
     assert_plan_refused(&text, &plan().set(2, 5, 1).text(), 15, 2, 2);
-    // No link has another's demand, and the lowest link is told.
+    // No link has another's demand, and the lowest link is reported.
     let text_of = |first: u64, third: u64| plan().set(1, 4, first).set(1, 6, third).text();
     assert_plan_refused(&text, &text_of(4000, 101), 15, 1, 3);
     assert_plan_refused(&text, &text_of(5001, 101), 15, 1, 1);

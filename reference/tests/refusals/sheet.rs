@@ -49,7 +49,7 @@ fn r34_a_run_of_another_duration() {
     }
     // The last run isn't left: phase 1 in step 8.
     assert_kept(&network, PHASES, "F 30 20\n");
-    // Left a step earlier, which is told at its last step.
+    // Left a step earlier, which is reported at its last step.
     assert_not_kept(&network, [1, 2, 2, 1, 1, 2, 1, 1], "F 10 20\n", 6);
 }
 

@@ -83,7 +83,7 @@ fn r28_phase_after_the_last_light() {
         assert_network_refused(&sheet.clone().set(5, 3, 0).text(), 28, 2, 0);
         assert_network_refused(&sheet.set(5, 3, "x").text(), 28, 2, 0);
     }
-    // The first of several lines is told.
+    // The first of several lines is reported.
     let text = with_trams(&["T 2 3 1 1", "T 2 4 2 2", "T 1 3 1 1"]).text();
     assert_network_refused(&text, 28, 3, 0);
 }

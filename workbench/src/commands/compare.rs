@@ -14,7 +14,7 @@ use std::path::Path;
 pub const COMMAND: Command = Command {
     name: "compare",
     arguments: "NETWORK FIRST SECOND [-o PAGE.html]",
-    does: "tells which of two plans is ahead, by all vehicles let out up to each boundary, where they cross and the gap of their travel times; draws both",
+    does: "says which of two plans is ahead, by all vehicles let out up to each boundary, where they cross and the gap of their travel times; draws both",
     run,
 };
 

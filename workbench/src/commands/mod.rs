@@ -20,7 +20,7 @@ mod wave;
 
 use crate::command::Command;
 
-/// In the order in which the usage tells them.
+/// In the order in which the usage prints them.
 pub const ALL: &[Command] = &[
     check::COMMAND,
     explain::COMMAND,

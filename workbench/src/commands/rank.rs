@@ -60,7 +60,7 @@ fn run(arguments: &[String], out: &mut dyn Write) -> Outcome {
 }
 
 /// The plans that are named, those of a folder by name; the first name is also that of the network. A folder that has another
-/// network is a problem, and what is no plan is told.
+/// network is a problem, and what is no plan is reported.
 fn plans_of(named: &[&str], network: &[u8]) -> Result<Vec<PathBuf>, Problem> {
     let mut plans = Vec::new();
     for (place, name) in named.iter().enumerate() {

@@ -14,7 +14,7 @@ use std::path::Path;
 pub const COMMAND: Command = Command {
     name: "sheet",
     arguments: "NETWORK SHEET [PLAN]",
-    does: "tells whether a plan keeps a fixed-time sheet; without a plan, writes one for a sheet with offsets",
+    does: "says whether a plan keeps a fixed-time sheet; without a plan, writes one for a sheet with offsets",
     run,
 };
 

@@ -18,7 +18,7 @@ pub const COMMAND: Command = Command {
     run,
 };
 
-/// How many variables are told by name.
+/// How many variables are printed by name.
 const TOLD: usize = 5;
 
 fn run(arguments: &[String], out: &mut dyn Write) -> Outcome {
@@ -54,7 +54,7 @@ fn run(arguments: &[String], out: &mut dyn Write) -> Outcome {
     Ok(judged(text, &plan))
 }
 
-/// The plan that a file has; where it has none, this is told.
+/// The plan that a file has; where it has none, this is reported.
 fn find_plan(network: &NetworkText, file: &str, found: &[u8]) -> Result<Option<PlanText>, Problem> {
     let model = Model::new(network);
     let found = solution::read(&String::from_utf8_lossy(found), &model.variables());
@@ -78,7 +78,7 @@ fn tell_faults(faults: &[String]) {
     }
 }
 
-/// Tells variables with a word on them, the first by name.
+/// Prints variables with a word on them, the first by name.
 fn tell(what: &str, variables: &[String]) {
     if !variables.is_empty() {
         let named = variables[..variables.len().min(TOLD)].join(", ");
@@ -87,7 +87,7 @@ fn tell(what: &str, variables: &[String]) {
     }
 }
 
-/// Tells what the library says of the plan.
+/// Prints what the library says of the plan.
 fn judged(network: Vec<u8>, plan: &PlanText) -> Ended {
     let texts = Texts {
         network,

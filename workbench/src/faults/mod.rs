@@ -1,5 +1,5 @@
 //! What is wrong with the values of a text that is refused: the numbers that its rule compares, and the fields that they stand in.
-//! That a text is refused, and where, is the library's to say; here is told why, as far as the text shows it.
+//! That a text is refused, and where, is the library's to say; this is why, as far as the text shows it.
 
 mod corridor;
 mod listing;

@@ -253,7 +253,7 @@ fn movement(mut faults: Faults, numbers: Numbers, raw: &Raw, item: u32) -> Vec<F
     faults.found
 }
 
-/// The shares of the movements from a link, told at the last of them.
+/// The shares of the movements from a link, reported at the last of them.
 fn shares(faults: &mut Faults, raw: &Raw, from: u32) {
     let items = (1..=raw.movements).filter_map(|item| raw.item(b'M', item));
     let own: Vec<(usize, u32)> = items

@@ -1,4 +1,4 @@
-//! A past that does not fit its network (refusal 30), which is told of no line.
+//! A past that does not fit its network (refusal 30), which names no line.
 
 use super::network::{Numbers, Raw, MAX_STEP};
 use super::{Fault, Faults};
@@ -27,7 +27,7 @@ pub fn of_past(raw: &Raw) -> Vec<Fault> {
         faults.outside(1, "the length", step.field(1), [1, MAX_STEP]);
         found.extend(faults.found);
     }
-    // What a link's past comes to is told of steps with lengths.
+    // What a link's past adds up to is said only if the steps have lengths.
     if found.is_empty() {
         found.extend((1..=raw.links).flat_map(|link| of_link(raw, link)));
     }

@@ -94,7 +94,7 @@ fn field(frame: &Frame, [step, cell]: [usize; 2], [volume, limit]: [u32; 2], [to
     field
 }
 
-/// The steps that are told: all, or so many that their numbers have room, the last among them.
+/// The steps that have numbers: all, or so many that their numbers have room, the last among them.
 fn shown_steps(columns: usize) -> Vec<usize> {
     let unit = [1, 2, 5, 10, 20]
         .into_iter()

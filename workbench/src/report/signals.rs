@@ -142,7 +142,7 @@ fn phase_bar(frame: &Frame, signal: usize, mask: u32, phases: u32, seconds: [u32
     if known && phase > COLOURS {
         bar += &frame.bar("hatched", from, to, top, BAR, &title);
     }
-    // A bar that is too narrow for its name tells it as a title alone.
+    // A bar that is too narrow for its name has it as a title only.
     let room = (frame.x(to) - frame.x(from)) / LETTER;
     if room >= f64::from(u32::try_from(label.len()).unwrap_or(u32::MAX)) {
         let (middle, base) = (frame.middle(from, to), top + BAR - 6.0);

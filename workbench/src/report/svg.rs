@@ -1,5 +1,5 @@
-//! Pictures over time: a frame with its two scales, and what is drawn in it. Places are worked out in floats; no number that
-//! is told is.
+//! Pictures over time: a frame with its two scales, and what is drawn in it. Places are computed in floats; no printed number
+//! is.
 
 use crate::show;
 use std::fmt::Write;
@@ -154,7 +154,7 @@ impl Frame {
         )
     }
 
-    /// What is told of each boundary while the pointer is near it.
+    /// What is shown of each boundary while the pointer is near it.
     pub fn told(&self, times: &[u32], words: impl Fn(usize) -> String) -> String {
         self.columns(times, [TOP, self.height - TOP - BOTTOM], words)
     }

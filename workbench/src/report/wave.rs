@@ -178,7 +178,7 @@ impl Diagram<'_> {
         text("band-words", x, y, "middle", &format!("{} s", band.seconds()))
     }
 
-    /// The queue of a link, back from its stop line, as long as the part of the link's capacity that it takes; and what is told
+    /// The queue of a link, back from its stop line, as long as the part of the link's capacity that it takes; and what is shown
     /// of each boundary.
     fn queue(&self, along: &Along) -> String {
         let times = self.run.network.times();

@@ -22,7 +22,7 @@ fn points(run: &Run, times: &[u32], volume: fn(&Running) -> u64) -> Vec<Point> {
     run.running.iter().zip(times).map(at).collect()
 }
 
-/// What is told of each boundary that passed.
+/// What is shown of each boundary that passed.
 fn told(run: &Run, frame: &Frame, times: &[u32], words: fn(&Running) -> String) -> String {
     frame.told(&times[..run.running.len()], |boundary| words(&run.running[boundary]))
 }

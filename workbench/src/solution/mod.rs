@@ -1,4 +1,4 @@
-//! The plan that a solver's file tells, whatever else the file has.
+//! The plan in a solver's file, whatever else the file has.
 
 mod file;
 mod plan;

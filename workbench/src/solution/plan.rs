@@ -64,7 +64,7 @@ impl Taken {
             };
             taken.count += 1;
             if !seen.insert(variable.trim_start_matches('g')) {
-                taken.faults.push(format!("{variable} is told twice"));
+                taken.faults.push(format!("{variable} is given twice"));
             } else if let Err(fault) = taken.take(network, &place, named.value) {
                 taken.faults.push(format!("{variable} is {}: {fault}", named.written));
             } else if !place.is_exact(network, named.value) {

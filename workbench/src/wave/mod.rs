@@ -1,5 +1,5 @@
 //! What a time-distance diagram shows along a path of links: when each stop line is open, the bands of time in which a vehicle
-//! passes all of them without a stop, and vehicles on their way. Distance is told by travel time.
+//! passes all of them without a stop, and vehicles on their way. Distances are drawn by travel time.
 
 mod band;
 mod curve;
@@ -105,7 +105,7 @@ struct Row {
     left: Vec<u32>,
 }
 
-/// The rows of the past that a network text tells, up to second 0, which is not among them.
+/// The rows of the past that a network text has, up to second 0, which is not among them.
 fn past_of(network: &[u8]) -> Vec<Row> {
     let records: Vec<_> = lines(network).into_iter().map(record).collect();
     let standing = records.iter().filter(|record| record.letter == b'Q');

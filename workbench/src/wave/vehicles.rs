@@ -106,7 +106,7 @@ impl Along {
         self.entered.reaches(number)
     }
 
-    /// Drives a vehicle along the link, from second 0 on, and tells when it leaves; none where it has not by the end.
+    /// Drives a vehicle along the link, from second 0 on, and returns when it leaves; none where it has not by the end.
     fn drive(&self, coming: &mut Coming, end: f64) -> Option<f64> {
         let arrives = coming.second + f64::from(self.travel_time);
         let leaves = self.left.reaches(coming.number).map(|second| second.max(arrives));

@@ -1,9 +1,9 @@
-//! Why a text is refused for its values: each limit broken once, with the field that is marked and the numbers that are told.
+//! Why a text is refused for its values: each limit broken once, with the field that is marked and the numbers that are printed.
 
 use super::{corridor_with, example, scratch, workbench};
 use std::fs;
 
-/// The corridor with a line of its network replaced is refused with a number, shows the line so, and tells why.
+/// The corridor with a line of its network replaced is refused with a number, shows the line so, and says why.
 fn explains(name: &str, line: usize, text: &str, number: u32, shown: &str, why: &str) {
     let folder = corridor_with(&format!("faults_{name}"), "network.tsv", line, text);
     let said = workbench(&["explain", &folder]);

@@ -253,7 +253,7 @@ fn a_solution_is_read_or_what_is_wrong_is_told() {
         ("i_3_1 1\n", "i_3_1 is 1: the network has no such variable"),
         ("i_1_5 1\n", "i_1_5 is 1: the network has no such variable"),
         ("i_1_1 -1\n", "i_1_1 is -1: a volume is not below 0"),
-        ("i_1_1 0.5\ngi_1_1 5000\n", "gi_1_1 is told twice"),
+        ("i_1_1 0.5\ngi_1_1 5000\n", "gi_1_1 is given twice"),
         (
             "Infeasible - objective value 0\n",
             "has no plan: Infeasible - objective value 0",

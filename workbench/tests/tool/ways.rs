@@ -1,4 +1,4 @@
-//! The ways to name what is judged: folders, files, standard input; and what is told of what is wrong.
+//! The ways to name what is judged: folders, files, standard input; and what is said of what is wrong.
 
 use super::{corridor_with, example, scratch, workbench, workbench_with, Said};
 use std::fs;

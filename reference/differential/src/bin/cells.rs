@@ -1,7 +1,7 @@
 //! Compares runs of corridors in cells with the other implementation: the answer, the totals and every volume.
 //!
 //! `cells COUNT SEED`: COUNT texts, of the seeds SEED, SEED + 1, .., so that a difference can be found again by itself: `cells 1 SEED` with the seed
-//! that is told. Of each seed there is a text and one with zeros before some of its numbers, which must get the same from the library.
+//! that is printed. Of each seed there is a text and one with zeros before some of its numbers, which must get the same from the library.
 
 // Each of the comparing programs calls a part of the library.
 #[allow(dead_code)]

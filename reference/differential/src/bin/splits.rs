@@ -1,7 +1,7 @@
 //! Compares splits of networks and plans with the other implementation: the answer, and every byte of the four buffers and of what stands beside them.
 //!
 //! `splits COUNT SEED`: at least COUNT calls, of the seeds SEED, SEED + 1, .., so that a difference can be found again by itself: `splits 1 SEED` with the
-//! seed that is told. Of a seed there are the calls that the reference makes for one random network, of every 64th for one of the largest size too, a mutated copy of
+//! seed that is printed. Of a seed there are the calls that the reference makes for one random network, of every 64th for one of the largest size too, a mutated copy of
 //! each, and of each of these one with zeros before some numbers, which must get the same from the library.
 
 // Each of the comparing programs calls a part of the library.

@@ -1,7 +1,7 @@
 //! Compares a step of vehicles with the other implementation: the answer, and the bits of every place after the call, signs of zeros included.
 //!
 //! `traces COUNT SEED`: COUNT steps, of the seeds SEED, SEED + 1, .., so that a difference can be found again by itself: `traces 1 SEED` with the
-//! seed that is told.
+//! seed that is printed.
 
 // Each of the comparing programs calls a part of the library.
 #[allow(dead_code)]
