@@ -114,19 +114,20 @@ fn section(id: &str, title: &str, words: &str, shown: &str) -> String {
 }
 
 const TABLE: &str =
-    "The delay is that of vehicles that came to the link's end, in its queue. At capacity: the seconds of steps in \
-    which the link took in all that it can hold, so that those behind had to wait.";
-const WAVE: &str = "Upwards, the way by its travel time; a second path is drawn downwards. At a link's end the bar is thick and \
-    green where the signal opens it, thin and red where it shuts it, hatched above where a tram claims the signal. A vehicle that \
-    starts within a through band meets every signal open. Vehicles come first in, first out; who stands is drawn behind those \
-    before him, and a queue takes the part of the link that it takes of its capacity.";
+    "The delay is the time in the link's queue, of the vehicles that came to its end. At capacity: the seconds of the \
+    steps in which the link took in all that it can hold, so that those behind had to wait.";
+const WAVE: &str =
+    "The way runs upwards, each link as high as its travel time; a second path runs downwards. The bar at a link's end is \
+    thick and green while the signal opens the link, thin and red while it shuts it; above it a tram that claims the signal \
+    is hatched. A vehicle that starts in a through band finds every signal open. Vehicles keep their order; a vehicle that \
+    stands is drawn behind those before it. A queue covers as much of the link as it takes of the link's capacity.";
 const SIGNALS: &str =
-    "The number of the phase that each signal shows, over the seconds; in front of second 0, the one shown \
-    before the plan.";
+    "The number of the phase that each signal shows, over the seconds; left of second 0, the phase shown before \
+    the plan.";
 const TRAMS: &str = " A hatched bar is a tram that claims the signal, with the phase that it asks for.";
 const PAST: &str = "What has entered, arrived and left counts from the first past step on. ";
 const LINKS: &str =
-    "The strip under the seconds is thick and green where the signal opens the link, thin and red where it shuts it.";
+    "The strip under the seconds is thick and green while the signal opens the link, thin and red while it shuts it.";
 
 /// What the network has, and how far its plan passes.
 fn extent(run: &Run) -> String {
