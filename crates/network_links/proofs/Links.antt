@@ -97,12 +97,6 @@ module _ {text : List ℕ} {reading : Reading} {signals : List Signal} {links₀
       records-judged (λ i. refl) (sym asked.reached.counted.links) (λ i. omega (arith, asked.reached.counted.trams, asked.reached.counted.signals))
       (λ i links said h rows p. says links i said p ∙ rw (add-one i, asked.reached.counted.signals, link-is (lines text) links.now rows i (omega arith), link-valid asked.signal-table (omega (arith, asked.reached.counted.signals, asked.reached.counted.few.signals)) i) refl)
 
-  pub few-phases : FewPhases (take reading.counts.signals signals)
-  few-phases =
-      let e = asked.reached.counted.signals in
-      let size : length (take reading.counts.signals signals) ≡ reading.counts.signals = length-take-le _ signals (omega (arith, asked.signal-table.size, asked.reached.counted.few.signals)) in
-      record { few = λ r h. rw (get_or-take reading.counts.signals signals r no_signal (omega arith)) (asked.few-phases.few r (omega arith)) }
-
   module _ {result : Result ℕ Refusal} {links : List Link} (got : RowsHeld MadeBy text (link_block (lines text)) link_fields (length links₀) result links) where
     pub links-refused : {r : Refusal} → result ≡ Err r → Judged (block_checks (link_block (lines text))) (LinksHeld text links) (Err r)
     links-refused {r} e = judged-refused (got.refused r e)

@@ -56,20 +56,6 @@ pub record SignalTable (network : List Line) (signals : List Signal) : Type 0 wh
   pub size : length signals ≡ max_signals
   pub holds : (r : ℕ) → r < signal_count network → signal_at signals r ≡ signal network r
 
--- a signal that shows a phase, for so many seconds, with its cycle clock at so many; its limits are kept
-abbrev pub showing : Signal → ℕ → ℕ → ℕ → Signal
-showing s q shown_for clock =
-    record {
-      least_cycle = s.least_cycle;
-      greatest_cycle = s.greatest_cycle;
-      phases = s.phases;
-      shown = q;
-      shown_for = shown_for;
-      cycle_clock = clock;
-      least = s.least;
-      greatest = s.greatest;
-    }
-
 -- the tables of a network have a link and a movement for each that it has, and its counts are few
 pub record TablesSized (reading : Reading) (links : List Link) (movements : List Movement) (times : List ℕ) : Type 0 where
   pub few : Few reading.counts

@@ -1,5 +1,5 @@
 -- What is known while the lines of a step are read.
-use Rattle.base_laws.proofs.Kit.{ℕ, ◌+◌, ◌<◌, ◌≡◌, refl, ap, ap₂, ◌∙◌, true, List, ◌++◌, add-one, dec_lt, arith, length, take, drop, get_or, replicate, length-replicate, get_or-replicate, List·getD-eq-default}
+use Rattle.base_laws.proofs.Kit.{ℕ, ◌+◌, ◌<◌, ◌≡◌, refl, ap, ap₂, ◌∙◌, true, List, ◌++◌, add-one, dec_lt, arith, length, take, drop, replicate, length-replicate, get_or-replicate, List·getD-eq-default}
 use Rattle.text_reader.specs.Lines.{Line, lines}
 use Rattle.model.specs.declared.Signal.{Signal}
 use Rattle.model.specs.Signals.{phase_of}
@@ -64,9 +64,6 @@ module _ {run : Run} {place : Place} {signals : List Signal} {lent : Lines} (ask
 
   few-steps : n < max_steps
   few-steps = omega (arith, asked.more, counted.steps, counted.few.steps)
-
-  pub boundary-word : n + 1 < 18446744073709551616
-  boundary-word = omega (arith, few-steps)
 
   pub line-asked : LineAsked signals counts lent.plan
   line-asked =

@@ -9,7 +9,7 @@ use Rattle.model.proofs.Times.{timeline-suc}
 use Rattle.network_tables.specs.Fields.{time_table_size}
 use Rattle.network_tables.specs.Tables.{TimeTable}
 use Rattle.step_arrivals.specs.Arrivals.{Rising}
-use Rattle.step_arrivals.specs.Timed.{TimeSet, TimeAsked, TimedTo}
+use Rattle.step_arrivals.specs.Timed.{TimeSet, TimedTo}
 
 -- the time at the end of a step that is set
 module _ {before : List ℕ} {m seconds : ℕ} {timed result : Bool} {after : List ℕ} (got : TimeSet before m seconds timed result after) (e : result ≡ true) where
@@ -37,13 +37,6 @@ module _ {network : List Line} where
       }
 
   module _ {timed : Bool} {m : ℕ} {times : List ℕ} (inv : TimedTo network timed m times) (below : m < past_count network + step_count network) where
-    pub time-ready : TimeAsked times m timed
-    time-ready =
-        record {
-          room = λ e. omega (arith, inv.few e, inv.room);
-          small = λ e. omega (arith, inv.times-set e m (omega arith), inv.short e m (omega arith), inv.few e);
-        }
-
     pub timed-next : {seconds : ℕ} → seconds ≡ timeline_length network m → {result : Bool} {after : List ℕ} → TimeSet times m seconds timed result after → TimedTo network result (m + 1) after
     timed-next {seconds} s {result} {after} got =
         record {

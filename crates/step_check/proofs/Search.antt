@@ -1,5 +1,5 @@
 -- The search for the first broken rule, a turn at a time: the row after the step is formed at place 10, and every rule before a place is kept.
-use Rattle.base_laws.proofs.Kit.{ℕ, ◌+◌, ◌≤◌, ◌<◌, ◌≡◌, refl, sym, ap, ◌∙◌, Bool, true, false, not, List, dec_le, ℕ_discrete, arith, length}
+use Rattle.base_laws.proofs.Kit.{ℕ, ◌+◌, ◌≤◌, ◌<◌, ◌≡◌, sym, ap, ◌∙◌, Bool, true, false, not, List, dec_le, ℕ_discrete, arith, length}
 use Rattle.base_search.specs.declared.Refusal.{Refusal}
 use Rattle.base_search.specs.Checks.{refusal, Verdict}
 use Rattle.base_search.proofs.Table.{RulesKept, ItemsKept, items-none, items_more, rules-more, items-broken, rules-all}
@@ -22,9 +22,6 @@ pub record RowAt (step : Step) (previous row : List ℕ) (k : ℕ) (row' : List 
   pub late : 10 ≤ k → row' ≡ made_row step previous row
 
 module _ {step : Step} {previous row : List ℕ} where
-  pub row_first : RowBefore step previous row 0 row
-  row_first = record { size = refl; early = λ h. refl; late = λ h. absurd (omega arith) }
-
   module _ {k : ℕ} {row' : List ℕ} where
     pub row-turn : {row'' : List ℕ} → RowBefore step previous row k row' → k < 13 → FormedFor (rule_of k) step previous row' row'' → length row'' ≡ length row' → RowAt step previous row k row''
     row-turn w l f same = record {

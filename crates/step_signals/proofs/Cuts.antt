@@ -3,7 +3,7 @@ use Rattle.base_laws.proofs.Kit.{ℕ, ◌+◌, ◌-◌, ◌^◌, ◌≤◌, ◌<
 use Rattle.std.specs.List.{slice_range}
 use Rattle.model.specs.declared.Signal.{Signal}
 use Rattle.network_tables.specs.Fields.{no_signal, signal_at}
-use Rattle.step_signals.specs.Ready.{Ready, AllReady}
+use Rattle.step_signals.specs.Ready.{Ready}
 use Rattle.step_signals.specs.Step.{HeldMasks, stepped, AdvanceAsked, Advanced}
 
 -- ---- n items from place a on, and the first n
@@ -20,11 +20,6 @@ pub cut-at : {X : Type 0} (xs : List X) (n i : ℕ) (d : X) → i < n → get_or
 cut-at xs n i d h = get_or-take (n - 0) (drop 0 xs) i d (omega arith) ∙ get_or-drop 0 xs i d ∙ ap (λ k. get_or xs k d) (omega arith)
 
 -- ---- the first n signals of a table
-pub ready-cut : (signals : List Signal) (n : ℕ) → n ≤ length signals → AllReady signals n → AllReady (slice_range signals 0 n) (length (slice_range signals 0 n))
-ready-cut signals n h ready r l =
-    let m : r < n = omega (arith, length-cut signals n h) in
-    rw (cut-at signals n r no_signal m) (ready r m)
-
 pub masks-cut : (signals : List Signal) (n : ℕ) {before line : List ℕ} → n ≤ length signals → HeldMasks (slice_range signals 0 n) (length (slice_range signals 0 n)) before line
     → HeldMasks signals n before line
 masks-cut signals n h masks =
