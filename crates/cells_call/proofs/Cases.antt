@@ -17,9 +17,13 @@ abbrev bytes : String → List ℕ
 bytes String.[] = []
 bytes (String.◌∷◌ c s) = code c ∷ bytes s
 
--- all that a run's computation unfolds
+-- all that a run's computation unfolds: the checks of a corridor, its steps and its answer
+unfoldable checks-opened : Unit {0}
+unfolding verdict checked or_else first_from lines_opened cell_of start_of valid_cell cell_form start_held volume_form cell_count demand_line demand_count cell_line_checks cell_checks exit_check demand_check demand_checks corridor_checks
+checks-opened = tt
+
 unfoldable opened : Unit {0}
-unfolding verdict checked or_else first_from lines_opened list inflow outflow flow volume_after after volumes_after total_in total_out cell_of start_of valid_cell cell_form start_held volume_form cell_count demand_line demand_count cell_line_checks cell_checks exit_check demand_check demand_checks corridor_checks chain starts demand demands padded volumes_of final_volumes run_of answer_of run_cells
+unfolding checks-opened list inflow outflow flow volume_after after volumes_after total_in total_out chain starts demand demands padded volumes_of final_volumes run_of answer_of run_cells
 opened = tt
 
 -- a text: its answer, by the volumes after its steps, and these

@@ -117,7 +117,13 @@ cases =
     ∷ record { network = the_network; plan = plan_with "0" "0" "600001"; set = 1; room = rooms 110 40 198 99; text = one "600001" "600001" & rest "600001" }
     ∷ record { network = the_network; plan = plan_with "9" "7" "4294967290"; set = 1; room = rooms 114 44 198 103; text = one "4294967290" "4294967295" & rest "4294967295" }
     -- masks that no rule would let pass are written as they are; an empty plan is the K lines that hold
-    ∷ record { network = "N\t2\t1\t0\t1\t0\t0\nG\t20\t60\t2\t2\t10\t20\t10\t30\t10\t30\nQ\t9\t9\t0\t1\t1\t0\t0\nQ\t9\t9\t0\t0\t0\t0\t0\nS\t10\t0\t0\n"; plan = "P\t99\t5\t6\t7\t8\n"; set = 1; room = rooms 67 9 37 6; text = "N\t1\t1\t0\t1\t0\t0\nG\t20\t60\t2\t2\t10\t20\t10\t30\t10\t30\nQ\t9\t9\t0\t1\t1\t0\t0\nS\t10\t0\nP\t99\t5\t7\nN\t1\t0\t0\t1\t0\t0\nQ\t9\t9\t0\t0\t0\t0\t0\nS\t10\t0\nP\t6\t8\n" }
+    ∷ record {
+      network = "N\t2\t1\t0\t1\t0\t0\nG\t20\t60\t2\t2\t10\t20\t10\t30\t10\t30\nQ\t9\t9\t0\t1\t1\t0\t0\nQ\t9\t9\t0\t0\t0\t0\t0\nS\t10\t0\t0\n";
+      plan = "P\t99\t5\t6\t7\t8\n";
+      set = 1;
+      room = rooms 67 9 37 6;
+      text = "N\t1\t1\t0\t1\t0\t0\nG\t20\t60\t2\t2\t10\t20\t10\t30\t10\t30\nQ\t9\t9\t0\t1\t1\t0\t0\nS\t10\t0\nP\t99\t5\t7\nN\t1\t0\t0\t1\t0\t0\nQ\t9\t9\t0\t0\t0\t0\t0\nS\t10\t0\nP\t6\t8\n";
+    }
     ∷ record {
       network = "N\t2\t1\t0\t2\t0\t0\nG\t20\t60\t2\t2\t10\t20\t10\t30\t10\t30\nQ\t9\t9\t0\t0\t0\t0\t0\nQ\t9\t9\t0\t1\t1\t0\t0\nS\t10\t0\t0\nS\t10\t0\t0\n";
       plan = "";

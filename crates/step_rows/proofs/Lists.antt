@@ -1,5 +1,6 @@
 -- Rows as lists of pairs.
-use Rattle.base_laws.proofs.Kit.{◌≡◌, refl, ap, sym, ◌∙◌, ◌⊎◌, inl, inr, ⊎_elim, List, [], ◌∷◌, ◌++◌, append_assoc, ℕ, zero, suc, ◌+◌, ◌*◌, ◌-◌, ◌/◌, ◌≤◌, ◌<◌, mul-suc, eq-or-lt_of_le, le_of_suc-le-suc, add-one, dec_le, arith, length, get_or, drop, set, length-append, length-drop, List·getD-append, append_snoc, drop-cons, set_at, get_or-append-add, get_or_at, get_or-drop, ext_get_or}
+use Rattle.base_laws.proofs.Kit.{◌≡◌, refl, ap, sym, ◌∙◌, ◌⊎◌, inl, inr, ⊎_elim, List, [], ◌∷◌, ◌++◌, append_assoc, ℕ, zero, suc, ◌+◌, ◌*◌, ◌-◌, ◌/◌, ◌≤◌, ◌<◌, mul-suc, eq-or-lt_of_le}
+use Rattle.base_laws.proofs.Kit.{le_of_suc-le-suc, add-one, dec_le, arith, length, get_or, drop, set, length-append, length-drop, List·getD-append, append_snoc, drop-cons, set_at, get_or-append-add, get_or_at, get_or-drop, ext_get_or}
 use Rattle.step_rows.specs.Rows.{pairs}
 
 pub length_pairs : (e l : ℕ → ℕ) (n : ℕ) → length (pairs e l n) ≡ 2 * n
