@@ -122,7 +122,7 @@ fn keeps_link_limits(step: &Step) -> bool
     (0..step.counts.links).all(|i| admits_offer(step, i) && lets_out_rate(step, i))
 }
 
-// Whether a movement keeps 26 and 27, as one that is 0 does. By the tests of both the largest plan cost 1.4 % more, past 1.45 x the twin.
+// Whether a movement keeps 26 and 27, as one that is 0 does. By the tests of both the largest plan misses the bar of 1.45 x the twin (bench/twin.c).
 fn moves_within(step: &Step, j: usize) -> bool
     requires { j < step.now.counts.movements }
     ensures { result ≡ (moves_rate step.now j and moves_open step.now j) }

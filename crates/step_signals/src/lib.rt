@@ -24,8 +24,8 @@ pub enum SignalRule {
 }
 
 // The phase, among 1 to `phases`, whose bit is all of the mask; 0 where there is none, which breaks rule 10 (C7). The count of ones tests that one
-// bit is set; the trailing zeros are its place. A number and not an option: tables of options, for what is shown and what trams ask, cost the largest plan 2.2 % more,
-// 1.47 x the twin (the C check of bench/twin.c), past the bar of 1.45 x.
+// bit is set; the trailing zeros are its place. A number and not an option: by tables of options, for what is shown and what trams ask, the largest plan misses the
+// bar of 1.45 x the twin (the C check of bench/twin.c).
 pub fn phase_of(mask: u32, phases: u32) -> u32
     ensures { result ≡ phase_of mask phases }
 {
@@ -220,8 +220,8 @@ fn keeps_ordinary_rules(signal: &Signal, phase: u32, seconds: u32) -> bool
 }
 
 // Whether a signal goes on with its phase, and neither the phase nor the cycle lasts too long. Then it keeps rules 10 to 14, as most do in most steps: without this
-// test the largest plan takes 3.7 % more, 1.49 x the twin, past the bar of 1.45 x. The sums are written out: with rule 13 by its own test it takes 1.2 % more, 1.46 x,
-// past that bar too; rule 14's own test asks more yet, whether phase 1 begins again.
+// test the largest plan misses the bar of 1.45 x the twin. The sums are written out: by rule 13's own test it misses that bar too, and rule 14's own test asks more
+// yet, whether phase 1 begins again.
 fn goes_on(signal: &Signal, phase: u32, seconds: u32) -> bool
     requires ready { Ready signal.now }
     requires phase_bound { phase ≤ 8 }
