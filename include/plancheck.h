@@ -175,7 +175,7 @@ extern "C" {
 
 /*
  * The library takes texts of any length. No valid network text and no accepted plan text is longer than this, in bytes,
- * however it is padded: a longer one may be turned down unread. Both are proved (crates/text_lengths), and reached where
+ * however it is padded: you may refuse a longer one unread. Both are proved (crates/text_lengths), and reached where
  * every number is padded to 10 digits: by a network of 118 past steps, 2 steps and 16 tram lines, and by a plan of 120
  * steps.
  */

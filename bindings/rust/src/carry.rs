@@ -7,7 +7,7 @@ use crate::{library, refused, Refusal};
 pub const MAX_NETWORK_TEXT_LEN: usize = 71_988;
 
 /// Carries a network on from a boundary, for a server that plans anew while traffic runs: judges a plan of as many lines on
-/// the network cut to as many steps, writes the network text from the boundary on, and gives its length. The steps of the
+/// the network cut to as many steps, writes the network text from the boundary on, and returns its length. The steps of the
 /// plan are past there.
 ///
 /// A plan of K lines is accepted exactly when its first lines are by this call and the rest is on the text that it writes;

@@ -3,7 +3,7 @@
 use crate::{library, refused, Refusal};
 use core::fmt;
 
-/// How the first of two plans stands to the second, by all volume let out of the network up to each boundary.
+/// How the first of two plans compares with the second, by all volume let out of the network up to each boundary.
 #[derive(Clone, Copy, Debug, PartialEq, Eq, Hash)]
 pub enum Order {
     /// Never less, and somewhere more.
@@ -19,7 +19,7 @@ pub enum Order {
 /// Two accepted plans compared.
 #[derive(Clone, Copy, Debug, PartialEq, Eq, Hash)]
 pub struct Comparison {
-    /// How the first stands to the second.
+    /// How the first compares with the second.
     pub order: Order,
     /// The doubled time of the first minus that of the second: negative when the first is quicker. It is negative where
     /// the first is ahead, and 0 where they are equal.
@@ -37,7 +37,7 @@ pub enum Refused {
     Second,
 }
 
-/// Why a comparison declined.
+/// Why a comparison is refused.
 #[derive(Clone, Copy, Debug, PartialEq, Eq, Hash)]
 pub struct ComparisonRefusal {
     /// Whose refusal it is.

@@ -64,7 +64,7 @@ pub struct Version {
     pub major: u32,
     /// Changes with what is new; before 1.0.0 also with what breaks a caller.
     pub minor: u32,
-    /// Changes with what is mended.
+    /// Changes with fixes.
     pub patch: u32,
 }
 

@@ -54,7 +54,7 @@ pub const MAX_STEPS: usize = 120;
 /// The greatest number of past steps of a network; there may be none, and past and present steps together are at most
 /// [`MAX_STEPS`].
 pub const MAX_PAST_STEPS: usize = 120;
-/// No accepted plan text is longer than this, in bytes, however it is padded: a longer one may be turned down unread.
+/// No accepted plan text is longer than this, in bytes, however it is padded: you may refuse a longer one unread.
 pub const MAX_PLAN_TEXT_LEN: usize = 158_640;
 /// A ledger length that is enough for every network.
 pub const MAX_LEDGER_LEN: usize = required_ledger_len(MAX_LINKS, MAX_STEPS);

@@ -5,7 +5,7 @@ use crate::{library, refused, Refusal};
 /// A buffer length that is enough for the plan text of every listing, in bytes.
 pub const MAX_WRITTEN_PLAN_LEN: usize = 151_920;
 
-/// Writes the plan text of a solver's listing, and gives its length. Each line of the listing is a variable, a space
+/// Writes the plan text of a solver's listing, and returns its length. Each line of the listing is a variable, a space
 /// and a decimal: `p_l_k_n` (signal, phase, step) of value 0 or 1, `i_i_n` and `o_i_n` (link, step: the rates admitted
 /// and let out) and `m_j_n` (movement, step), in vehicles a second. A variable that no line names is 0.
 ///

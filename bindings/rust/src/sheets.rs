@@ -48,7 +48,7 @@ pub fn check_sheet(network: &[u8], plan: &[u8], sheet: &[u8], ledger: &mut [u32]
 }
 
 /// Writes a plan text for a fixed-time sheet whose lines end in an offset, the seconds of the cycle, phase 1 first, that
-/// have run at time 0, and gives its length. Every volume is 0, and each mask is the phase that the repeated cycle shows in
+/// have run at time 0, and returns its length. Every volume is 0, and each mask is the phase that the repeated cycle shows in
 /// that step. [`MAX_WRITTEN_PLAN_LEN`](crate::MAX_WRITTEN_PLAN_LEN) bytes are enough for every sheet.
 ///
 /// The bytes past the text keep what they held, and a refusal leaves all of them as they were. The plan itself is not
