@@ -1,18 +1,10 @@
 -- Where the pass finds that every movement keeps both limits, each of them does.
-use Rattle.std.proofs.Common.{refl, sym, ◌∙◌, ℕ, Bool, arith, rules, tests}
-use Rattle.std.proofs.lemmas.Iterator.{YieldsList-from_range}
-use Rattle.std.proofs.lemmas.Iterator.Search.{all_from_yields_List}
+use Rattle.std.proofs.Common.{rules, tests}
 use Rattle.base_laws.specs.Test.{◌and◌}
-use Rattle.base_laws.proofs.Tests.{every-at, and_left, and_right}
-use Rattle.network_tables.proofs.Every.{all-every}
+use Rattle.network_tables.proofs.Every.{range-every, both-kept}
 use Rattle.step_limits.specs.Limits.{moves_rate, moves_open}
 use Rattle.step_limits.proofs.keeps_movement_limits.Goals as goal
 
 pub returns : goal.returns
 unfolding ◌and◌
-returns c =
-    let step = c.args.step.now in
-    let n = step.counts.movements in
-    let keeps : ℕ → Bool = λ j. moves_rate step j and moves_open step j in
-    let told = all_from_yields_List keeps _ _ _ c.all.ensures.ran (YieldsList-from_range 0 n n refl (omega arith)) (λ j b q k. search (rules, tests)) ∙ all-every n keeps in
-    λ t j h. let kept = every-at n keeps (sym told ∙ t) j h in (and_left _ _ kept, and_right _ _ kept)
+returns c = both-kept _ (moves_rate c.args.step.now) (moves_open c.args.step.now) (range-every _ _ c.all.ensures.ran (λ j b q k. search (rules, tests)))

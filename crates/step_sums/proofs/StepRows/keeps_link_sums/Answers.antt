@@ -1,10 +1,7 @@
 -- Where the pass finds that every link keeps both rules, each of them does.
-use Rattle.std.proofs.Common.{refl, sym, ◌∙◌, ℕ, Bool, arith, rules, tests}
-use Rattle.std.proofs.lemmas.Iterator.{YieldsList-from_range}
-use Rattle.std.proofs.lemmas.Iterator.Search.{all_from_yields_List}
+use Rattle.std.proofs.Common.{rules, tests}
 use Rattle.base_laws.specs.Test.{◌and◌}
-use Rattle.base_laws.proofs.Tests.{every-at, and_left, and_right}
-use Rattle.network_tables.proofs.Every.{all-every}
+use Rattle.network_tables.proofs.Every.{range-every, both-kept}
 use Rattle.step_sums.specs.Sums.{leaves_arrived, fits_capacity}
 use Rattle.step_sums.proofs.StepRows.keeps_link_sums.Goals as goal
 
@@ -14,6 +11,5 @@ returns c =
     let rows = c.args.self.now in
     let step = rows.step.now in
     let n = step.counts.links in
-    let keeps : ℕ → Bool = λ i. fits_capacity step rows.previous.now rows.row.now i and leaves_arrived step rows.row.now i in
-    let told = all_from_yields_List keeps _ _ _ c.all.ensures.ran (YieldsList-from_range 0 n n refl (omega arith)) (λ i b q k. search (rules, tests)) ∙ all-every n keeps in
-    λ t i h. let kept = every-at n keeps (sym told ∙ t) i h in (and_right _ _ kept, and_left _ _ kept)
+    let told = range-every n _ c.all.ensures.ran (λ i b q k. search (rules, tests)) in
+    λ t i h. let kept = both-kept n (fits_capacity step rows.previous.now rows.row.now) (leaves_arrived step rows.row.now) told t i h in (kept.1, kept.0)
