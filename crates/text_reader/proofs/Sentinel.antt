@@ -1,12 +1,12 @@
 -- The laws of the functions that read a text which a line feed ends: behind a byte that is no line feed the text goes on. Each is in the form of a need.
-use Rattle.base_laws.proofs.Kit.{ℕ, ◌+◌, ◌-◌, ◌*◌, ◌≤◌, ◌<◌, ◌≡◌, refl, sym, ap, ◌∙◌, ◌≢◌, Bool, true, false, cond, not, and-eq-true_iff, List, [], ◌∷◌, arith, add-zero, ℕ_discrete, eq-eqb, eqb-true, ne_eqb, eqb, length, get_or, set}
+use Rattle.base_laws.proofs.Kit.{ℕ, ◌+◌, ◌-◌, ◌*◌, ◌≤◌, ◌<◌, ◌≡◌, refl, sym, ap, ◌∙◌, ◌≢◌, Bool, true, false, cond, not, and-eq-true_iff, List, [], ◌∷◌, arith, add-zero, ℕ_discrete, eq-eqb, eqb-true, eqb-false, ne_eqb, eqb, length, get_or, set}
 use Rattle.text_reader.specs.declared.Ended.{Ended}
 use Rattle.text_reader.specs.declared.Ended.TheVariants.{ByTab, ByLineFeed, Neither}
 use Rattle.text_reader.specs.declared.Numbers.{Numbers}
 use Rattle.text_reader.specs.declared.Numbers.TheVariants.{Last, More, Missing}
 use Rattle.text_reader.specs.Field.{digit, largest}
 use Rattle.text_reader.specs.Lines.{no_letter}
-use Rattle.text_reader.specs.Reading.{number_until, field_at, separator, rest_at, starts_with, tab_before_sentinel, if_ended, DigitsRead, EndsAs, tabbed_at, GotNumbers, GotNumbersAs}
+use Rattle.text_reader.specs.Reading.{number_until, field_at, separator, rest_at, starts_with, tab_before_sentinel, if_ended, DigitsRead, EndsAs, tabbed_at, ended_by_line_feed, GotNumbers, GotNumbersAs}
 use Rattle.text_reader.proofs.Places.{field-stop}
 use Rattle.text_reader.proofs.Turns.{byte-within, Stored, stored_more, stored-stop, all-feed, all-other, Saying, saying-none, rest-stop, rest-full, rest-not, rest-big, rest-turn, rest-empty, tabbed-other, tabbed-empty, tabbed-some, digit_low, as_own}
 use Rattle.std.specs.Prelude.{Option, Some, None}
@@ -181,13 +181,21 @@ module _ (text : List ℕ) (at : ℕ) (out₀ out : List ℕ) (i k : ℕ) (inv :
         unfolding EndsAs
         last = let one = rw g at e in stored_more text at out₀ out i k inv (Some number) number h (sym one.0) refl
 
-        pub feed-all : k + 1 ≡ length out₀ → GotNumbers text at out₀ (Last (number.next + 1)) (set out k number.value)
+        feed-all : k + 1 ≡ length out₀ → GotNumbers text at out₀ (Last (number.next + 1)) (set out k number.value)
         feed-all n = all-feed text at out₀ (set out k number.value) number.next (k + 1) last (omega arith) feed
 
-        pub feed-early : k + 1 ≢ length out₀ → GotNumbers text at out₀ Missing (set out k number.value)
+        feed-early : k + 1 ≢ length out₀ → GotNumbers text at out₀ Missing (set out k number.value)
         feed-early n =
             stored-stop text at out₀ (set out k number.value) number.next (k + 1) last None (omega (arith, n))
             (tabbed-other text number.next (λ z. omega (arith, feed))) refl
+
+        pub feed-ended : (m : Numbers) → m ≡ ended_by_line_feed (number.next + 1) (eqb (k + 1) (length out₀)) → GotNumbers text at out₀ m (set out k number.value)
+        unfolding ended_by_line_feed
+        feed-ended m e = go (eqb (k + 1) (length out₀)) refl
+          where
+            go : (last_asked : Bool) → eqb (k + 1) (length out₀) ≡ last_asked → GotNumbers text at out₀ m (set out k number.value)
+            go true q = rw (e, q) (feed-all (eqb-true (k + 1) (length out₀) q))
+            go false q = rw (e, q) (feed-early (eqb-false (k + 1) (length out₀) q))
 
 -- ---- the numbers of a line of a letter
 pub as-sentinel : (letter : ℕ) (text : List ℕ) (at : ℕ) (old : List ℕ) → letter < no_letter → (r : Bool) → r ≡ starts_with letter text at → not r ≡ false

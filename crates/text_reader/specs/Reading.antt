@@ -103,6 +103,10 @@ EndsAs text found (ByTab number) = (found ≡ Some number) × (get_or text numbe
 EndsAs text found (ByLineFeed number) = (found ≡ Some number) × (get_or text number.next 0 ≡ 10)
 EndsAs text found Neither = found ≡ None
 
+-- the line feed before this place ends a number: the last of its line, if it was the last that was asked for, or one is missing
+unfoldable pub ended_by_line_feed : ℕ → Bool → Numbers
+ended_by_line_feed next was_last = cond was_last (Last next) Missing
+
 -- whether n numbers are the last of the line of a letter at a place, more follows them, or one is missing, as in a line of another letter
 unfoldable pub numbers_as : ℕ → ℕ → List ℕ → ℕ → Numbers
 numbers_as letter n text at =

@@ -4,7 +4,7 @@
 ghost use Rattle.std.specs.Prelude.{◌≡◌, ◌+◌, ◌-◌, ◌*◌, ◌≤◌, ◌<◌, length, get_or, [], eqb, SomeIff};
 ghost use Rattle.text_reader.specs.Field.{digit, largest};
 ghost use Rattle.text_reader.specs.Lines.{starts_as};
-ghost use Rattle.text_reader.specs.Reading.{line_at, leading_as, field_at, separator, rest_at, DigitsRead, starts_with, tab_before_sentinel, tabbed_at, EndsAs, record_at, at_end, Got, GotNumbers, GotNumbersAs};
+ghost use Rattle.text_reader.specs.Reading.{line_at, leading_as, field_at, separator, rest_at, DigitsRead, starts_with, tab_before_sentinel, tabbed_at, EndsAs, ended_by_line_feed, record_at, at_end, Got, GotNumbers, GotNumbersAs};
 
 // How many digits a field has at most.
 const MAX_DIGITS: usize = 10;
@@ -176,6 +176,17 @@ fn sentinel_tabbed_at(text: &[u8], at: usize) -> Ended
     }
 }
 
+// A line feed ends a number: that is the last of its line, if it was the last that was asked for, or one is missing.
+fn ended_by_line_feed(next: usize, was_last: bool) -> Numbers
+    ensures { result ≡ ended_by_line_feed next was_last }
+{
+    if was_last {
+        Numbers::Last(next)
+    } else {
+        Numbers::Missing
+    }
+}
+
 // Reads the numbers after a tab in a text that a line feed ends. Not inlined, for check_plan's speed (docs/MEASUREMENTS.md).
 #[inline(never)]
 fn sentinel_numbers_at(text: &[u8], at: usize, out: &mut [u32]) -> Numbers
@@ -194,10 +205,7 @@ fn sentinel_numbers_at(text: &[u8], at: usize, out: &mut [u32]) -> Numbers
             }
             Ended::ByLineFeed(found) => {
                 *number = found.value;
-                if k + 1 == count {
-                    return Numbers::Last(found.next + 1);
-                }
-                return Numbers::Missing;
+                return ended_by_line_feed(found.next + 1, k + 1 == count);
             }
             Ended::Neither => return Numbers::Missing,
         }
