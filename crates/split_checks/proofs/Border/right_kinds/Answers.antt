@@ -1,8 +1,6 @@
 -- `split_checks::Border::right_kinds` meets its contract.
-use Rattle.std.proofs.Common.{refl, ◌∙◌, arith, rules, tests}
-use Rattle.std.proofs.lemmas.Iterator.{YieldsList-from_range}
-use Rattle.std.proofs.lemmas.Iterator.Search.{all_from_yields_List}
-use Rattle.network_tables.proofs.Every.{all-every}
+use Rattle.std.proofs.Common.{rules, tests}
+use Rattle.network_tables.proofs.Every.{range-every}
 use Rattle.split_checks.specs.Tables.{right_kind_in}
 use Rattle.split_checks.proofs.Border.right_kinds.Goals as goal
 
@@ -11,5 +9,4 @@ returns c =
     let a = c.args in
     let n = a.self.now.tables.now.reading.counts.movements in
     let right = right_kind_in a.self.now.tables.now.links.now a.self.now.tables.now.movements.now a.self.now.half.now.links a.self.now.tables.now.reading.counts.movements in
-    all_from_yields_List right _ _ _ c.all.ensures.ran (YieldsList-from_range 0 n n refl (omega arith)) (λ i b q k. search (rules, tests))
-    ∙ all-every n right
+    range-every n right c.all.ensures.ran (λ i b q k. search (rules, tests))
