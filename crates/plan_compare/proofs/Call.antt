@@ -2,7 +2,7 @@
 use Rattle.base_laws.proofs.Kit.{ℕ, ◌<◌, ◌≡◌, refl, sym, ap, ◌∙◌, List, le_refl, arith, length}
 use lib.IntN.{ℤ, sub_ℕ}
 use mir.Syntax.{w64}
-use mir.Val.{SFits, to_z, of_z}
+use mir.Val.{to_z, of_z}
 use Rattle.base_search.specs.declared.Refusal.{Refusal}
 use Rattle.base_search.specs.Checks.{verdict, Hold}
 use Rattle.base_search.specs.Numbers.{is_one_of}
@@ -30,9 +30,9 @@ use Rattle.plan_compare.specs.declared.Comparison.{Comparison}
 use Rattle.plan_compare.specs.declared.ComparisonRefusal.{ComparisonRefusal}
 use Rattle.plan_compare.specs.declared.ComparisonRefusal.TheVariants.{Network, First, Second}
 use Rattle.plan_compare.specs.Comparison.{plans_answer, network_answer, once_accepted, compare_plans, second_ledger_after}
-use Rattle.plan_compare.specs.Promises.{PlansCompared, ComparisonPromises, ComparisonGot}
+use Rattle.plan_compare.specs.Promises.{ComparisonPromises, ComparisonGot}
 use Rattle.plan_compare.specs.Curves.{lines_order, Formed}
-use Rattle.plan_compare.proofs.Gap.{gap_word, gap-held}
+use Rattle.plan_compare.proofs.Gap.{gap-held}
 use Rattle.plan_compare.proofs.Promises.{Accepts, accepts, accepted, compared-told, compared-promises, refused-promises}
 use Rattle.plan_compare.proofs.Curves.{plan-formed, order_is}
 use Rattle.std.specs.Prelude.{Result, Ok, Err, MatchResult, IsErrAnd}
@@ -43,12 +43,6 @@ time-word {network} {plan} {size} {t} a =
     let p = accepted a in
     let small = doubled-small network plan (unfold Hold plan_checks in a.holds.0) (step_count network) (le_refl _) (λ m l i u. (p.lawful m l).keeps18 i u) in
     omega (arith, a.time, (counts network p.valid).steps)
-
--- so that the gap of two plans that were compared fits 64 bits
-pub compared-word : {network first second : List Line} {first_size second_size : ℕ} {o : Order} {gap : ℤ} → PlansCompared network first second first_size second_size o gap → SFits w64 gap
-compared-word p =
-    let (t, u, one, other, e) = p.accepted in
-    rw e (gap_word t.doubled_time u.doubled_time (time-word (accepts _ _ _ t one)) (time-word (accepts _ _ _ u other)))
 
 -- what `map_err` and `?` make of a call's answer
 module _ (named : Refusal → ComparisonRefusal) {A : Type 0} {mapped : Result A ComparisonRefusal} where
