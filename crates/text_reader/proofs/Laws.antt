@@ -169,6 +169,18 @@ module _ (text : List ℕ) (at i : ℕ) (s : Starts text at i) where
     pub starts-next : Starts text next (suc i)
     starts-next = rw add-one at starts-plus
 
+  -- a record is passed unread
+  module _ (letter n : ℕ) (formed : is_record letter n (get_or (lines text) i no_line) ≡ true) where
+    record-here : is_record letter n (line_at text at) ≡ true
+    record-here = rw starts-line formed
+
+    pub record-within : at ≤ length text
+    record-within =
+        omega (arith, ended-within text at (parts letter n (line_at text at) record-here).ended, next-piece text at)
+
+    pub record-next : Starts text (next_line text at) (suc i)
+    record-next = starts-next letter n (next_line text at) (unfold record_at in rw record-here refl)
+
 -- a text that has bytes has lines
 pub some-lines : (text : List ℕ) → 0 < length text → 0 < length (lines text)
 some-lines [] h = absurd (omega arith)

@@ -1,5 +1,6 @@
 pub mod Bytes
 mod Places
+mod Passing
 pub mod Numerals
 pub mod Fill
 pub mod Laws

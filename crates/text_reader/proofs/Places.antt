@@ -79,10 +79,10 @@ abbrev pub end_of : List ℕ → ℕ → ℕ
 end_of text at = at + length (field_at text at)
 
 -- ---- how the line goes on from a place to another: its fields from the first place on are fs
-record Onward (text : List ℕ) (at there : ℕ) (fs : List (Option ℕ)) : Type 0 where
-  fields : (line_at text at).fields ≡ fs
+pub record Onward (text : List ℕ) (at there : ℕ) (fs : List (Option ℕ)) : Type 0 where
+  pub fields : (line_at text at).fields ≡ fs
   ended : (line_at text at).ended ≡ (line_at text there).ended
-  next : next_line text at ≡ next_line text there
+  pub next : next_line text at ≡ next_line text there
 
 -- past the field in which it starts
 module _ (text : List ℕ) (at : ℕ) where
@@ -90,7 +90,7 @@ module _ (text : List ℕ) (at : ℕ) where
   unfolding field_at first piece
   past = rw (drop-drop (length (field_at text at)) at text) at (past_first (drop at text))
 
-  past-field : Onward text at (end_of text at) (line_at text (end_of text at)).fields
+  pub past-field : Onward text at (end_of text at) (line_at text (end_of text at)).fields
   past-field =
       record {
         fields = line-fields text at ∙ past.same-others ∙ sym (line-fields text (end_of text at));
@@ -103,7 +103,7 @@ module _ (text : List ℕ) (at : ℕ) where
   end-stops = past.stops
 
 -- past a tab
-past-tab : (text : List ℕ) (at : ℕ) → at < length text → get_or text at 0 ≡ 9
+pub past-tab : (text : List ℕ) (at : ℕ) → at < length text → get_or text at 0 ≡ 9
     → Onward text at (at + 1) (field_of (field_at text (at + 1)) ∷ (line_at text (at + 1)).fields)
 unfolding field_at first
 past-tab text at h e =
@@ -143,7 +143,7 @@ numbers-none ended next n = rw (eqb·zero-suc n, leb·suc-zero n, and-false)
 
 -- ---- a tab and the field after it
 module _ (text : List ℕ) (at : ℕ) where
-  tab-within : get_or text at 0 ≡ 9 → at < length text
+  pub tab-within : get_or text at 0 ≡ 9 → at < length text
   tab-within e = elim (dec_le (length text) at) [ yes h ↦ omega (arith, List·getD-eq-default text 0 h) | no h ↦ omega arith ]
 
   past-tabbed : get_or text at 0 ≡ 9
@@ -158,7 +158,7 @@ module _ (text : List ℕ) (at : ℕ) where
       }
 
   -- a field that is empty where no tab stands is the line's last
-  past-none : field_at text at ≡ [] → get_or text at 0 ≢ 9 → (line_at text at).fields ≡ []
+  pub past-none : field_at text at ≡ [] → get_or text at 0 ≢ 9 → (line_at text at).fields ≡ []
   past-none s g = line-fields text at ∙ elim (dec_le (length text) at) [
     | yes h ↦ rw (drop_of_length-le text h) (unfold others split piece in refl)
     | no h ↦ elim (ℕ_discrete (get_or text at 0) 10) [
@@ -170,7 +170,7 @@ module _ (text : List ℕ) (at : ℕ) where
 -- ---- the turns of the reader: what is left to read from a place, and how the numbers end
 -- the number of the field after the tab, and where that field ends
 module _ (text : List ℕ) (at : ℕ) (number : FieldNumber) (e : tabbed_at text at ≡ Some number) where
-  found : Onward text at number.next (Some number.value ∷ (line_at text number.next).fields) × (field_at text number.next ≡ [])
+  pub found : Onward text at number.next (Some number.value ∷ (line_at text number.next).fields) × (field_at text number.next ≡ [])
   unfolding tabbed_at located
   found = go (eqb (get_or text at 0) 9) refl (field_of (field_at text (at + 1))) refl e
     where

@@ -5,9 +5,16 @@ ghost use Rattle.std.specs.Prelude.{◌≡◌, ◌+◌, ◌-◌, ◌*◌, ◌≤
 ghost use Rattle.text_reader.specs.Field.{digit, largest};
 ghost use Rattle.text_reader.specs.Lines.{starts_as};
 ghost use Rattle.text_reader.specs.Reading.{line_at, leading_as, field_at, separator, rest_at, DigitsRead, starts_with, tab_before_sentinel, tabbed_at, EndsAs, ended_by_line_feed, record_at, at_end, Got, GotNumbers, GotNumbersAs};
+ghost use Rattle.text_reader.specs.Passing.{block_size, weight, separators, Passing, FieldsPassed, stays_in_line, InLine, LineEnds, line_number};
 
 // How many digits a field has at most.
 const MAX_DIGITS: usize = 10;
+
+// How many bytes are passed at once on the way to a number of a line.
+const BLOCK: usize = 16;
+
+// What a line feed counts among the separators of a block, where a tab counts 1: a block with as many tabs is passed byte by byte.
+const LINE_FEED: u8 = 15;
 
 // The digit 0, as a byte of a text.
 const ZERO: u32 = 48;
@@ -17,6 +24,20 @@ const ZERO: u32 = 48;
 struct FieldNumber {
     value: u32,
     next: usize,
+}
+
+// How far fields are passed: a place, and how many more are to be.
+#[derive(Clone, Copy)]
+struct Passed {
+    place: usize,
+    left: usize,
+}
+
+// A number of a line, and the place of the next line.
+#[derive(Clone, Copy)]
+pub struct LineNumber {
+    pub value: u32,
+    pub next: usize,
 }
 
 // The number of the field after a tab, and which byte ends that field. No `Option`: where the byte behind a number is tested again for the next one, the largest
@@ -69,7 +90,8 @@ fn shifted(value: u32, b: u32) -> Option<u32>
 }
 
 // The number whose digits start at a place, and the place where its field ends: each place is held against the end of the text. Ten turns at most, which the
-// compiler unrolls: it finds that only a tenth digit can lack room.
+// compiler unrolls: it finds that only a tenth digit can lack room. Inlined, for check_plan's speed (docs/MEASUREMENTS.md).
+#[inline(always)]
 fn digits_from(text: &[u8], from: usize) -> Option<FieldNumber>
     requires { from ≤ length text.now }
     ensures { result ≡ rest_at 10 0 text.now from }
@@ -96,7 +118,8 @@ fn digits_from(text: &[u8], from: usize) -> Option<FieldNumber>
     Some(FieldNumber { value, next })
 }
 
-// The number of the field after a tab, and the place where that field ends.
+// The number of the field after a tab, and the place where that field ends. Inlined, for check_plan's speed (docs/MEASUREMENTS.md).
+#[inline(always)]
 fn tabbed_at(text: &[u8], at: usize) -> Option<FieldNumber>
     ensures { result ≡ tabbed_at text.now at }
 {
@@ -263,6 +286,121 @@ pub fn head_at(text: &[u8], at: usize, letter: u8, out: &mut [u32]) -> bool
         out.old result out.new }
 {
     !matches!(numbers_at(text, at, letter, out), Numbers::Missing)
+}
+
+// A byte among the separators of a block.
+fn weight(b: u8) -> u8
+    ensures { result ≡ weight b }
+{
+    match b {
+        b'\t' => 1,
+        b'\n' => LINE_FEED,
+        _ => 0,
+    }
+}
+
+// The separators of the block at a place. By index, and without a test of a single byte: the compiler adds up all bytes of the block at once.
+fn separators_in(text: &[u8], at: usize) -> u8
+    requires { at + block_size ≤ length text.now }
+    ensures { result ≡ separators text.now at block_size }
+{
+    let mut sum: u8 = 0;
+    for k in 0..BLOCK {
+        sum += weight(text[at + k]);
+    }
+    sum
+}
+
+// Passes `n` fields of a line by whole blocks, as long as these have no line feed and no more tabs than are left to be passed.
+fn past_blocks(text: &[u8], at: usize, n: usize) -> Passed
+    requires { at ≤ length text.now }
+    ensures { Passing text.now at n result }
+{
+    let mut place = at;
+    let mut left = n;
+    while BLOCK <= text.len() - place {
+        let sum = separators_in(text, place);
+        if (LINE_FEED <= sum) | (left < sum as usize) {
+            break;
+        }
+        left -= sum as usize;
+        place += BLOCK;
+    }
+    Passed { place, left }
+}
+
+// The place behind `n` fields of a line, or where its last one ends.
+fn past_fields(text: &[u8], at: usize, n: usize) -> usize
+    requires { at ≤ length text.now }
+    ensures { FieldsPassed text.now at n result }
+{
+    let passed = past_blocks(text, at, n);
+    let mut left = passed.left;
+    let mut place = passed.place;
+    while place < text.len() {
+        let b = text[place];
+        if is_separator(b) {
+            if b == b'\n' || left == 0 {
+                break;
+            }
+            left -= 1;
+        }
+        place += 1;
+    }
+    place
+}
+
+// Whether no line feed stands in the block at a place. By index, and to its end: the compiler looks at all bytes of the block at once.
+fn stays_in_line(text: &[u8], at: usize) -> bool
+    requires { at + block_size ≤ length text.now }
+    ensures { result ≡ stays_in_line text.now at block_size }
+{
+    let mut stays = true;
+    for k in 0..BLOCK {
+        stays &= text[at + k] != b'\n';
+    }
+    stays
+}
+
+// Passes whole blocks without a line feed.
+fn past_line_blocks(text: &[u8], at: usize) -> usize
+    requires { at ≤ length text.now }
+    ensures { InLine text.now at result }
+{
+    let mut place = at;
+    while BLOCK <= text.len() - place && stays_in_line(text, place) {
+        place += BLOCK;
+    }
+    place
+}
+
+// Where the line of a place ends: the place of its line feed, or the end of the text.
+fn line_end(text: &[u8], at: usize) -> usize
+    requires { at ≤ length text.now }
+    ensures { LineEnds text.now at result }
+{
+    let mut place = past_line_blocks(text, at);
+    while place < text.len() && text[place] != b'\n' {
+        place += 1;
+    }
+    place
+}
+
+// Number `k` of the line at a place, from 0, or 0 where it has none; and the place of the next line. No other number is read: what stands before it and
+// behind it is passed by blocks.
+pub fn number_at(text: &[u8], at: usize, k: usize) -> LineNumber
+    requires { at ≤ length text.now }
+    ensures { result ≡ line_number text.now at k }
+{
+    let end = past_fields(text, at, k);
+    let value = match tabbed_at(text, end) {
+        Some(found) => found.value,
+        None => 0,
+    };
+    LineNumber {
+        value,
+        next: line_end(text, end) + 1,
+    }
 }
 
 pub fn is_end(text: &[u8], at: usize) -> bool
