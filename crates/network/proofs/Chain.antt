@@ -154,7 +154,6 @@ module _ {text : List ℕ} {signals₀ : List Signal} {links₀ : List Link} {mo
                                         (record {
                                           counted = held.counted;
                                           trams-start = held.trams-start;
-                                          signals-start = held.signals-start;
                                           past-start = held.past-start;
                                           steps-start = held.steps-start;
                                           signal-table = (j₁.held _ e₂).table;

@@ -127,7 +127,6 @@ module _ {text : List ℕ} {reading : Reading} {links : List Link} {movements : 
                       same-movements = m;
                       counted = rw r held.reached.counted;
                       trams-start = rw r held.reached.trams-start;
-                      signals-start = rw r held.reached.signals-start;
                       past-start = rw r held.past-start;
                       steps-start = rw r held.steps-start;
                       past-held = past-held;

@@ -5,7 +5,7 @@ use Rattle.base_search.specs.Checks.{Checks, check, each, ◌then◌, Hold, verd
 use Rattle.text_reader.specs.Lines.{Line, lines}
 use Rattle.text_reader.specs.Reading.{Starts}
 use Rattle.model.specs.declared.Signal.{Signal}
-use Rattle.model.specs.Network.{max_signals, max_links, max_movements, link_count, movement_count, step_count, tram_count, tram_line, signal_line, timeline_line, step_line, capacity, standing, travel_time}
+use Rattle.model.specs.Network.{max_signals, max_links, max_movements, link_count, movement_count, step_count, tram_count, tram_line, timeline_line, step_line, capacity, standing, travel_time}
 use Rattle.model.specs.Table.{tram_phase_checks, network_checks}
 use Rattle.network_tables.specs.declared.Reading.{Reading}
 use Rattle.network_tables.specs.Blocks.{block_checks, tram_block, signal_block, past_block, step_block}
@@ -65,7 +65,6 @@ pub record TimelineHeld (text : List ℕ) (links : List Link) (movements : List 
   pub same-movements : tables.movements.now ≡ movements
   pub counted : CountsHold (lines text) tables.reading.counts
   pub trams-start : Starts text tables.reading.trams_at (tram_line (lines text) 0)
-  pub signals-start : Starts text tables.reading.signals_at (signal_line (lines text) 0)
   pub past-start : Starts text tables.reading.past_at (timeline_line (lines text) 0)
   pub steps-start : Starts text tables.reading.steps_at (step_line (lines text) 0)
   pub time-table : TimeTable (lines text) tables.times.now
@@ -80,11 +79,10 @@ pub record Rooms (signals : List Signal) (links : List Link) (movements : List M
   pub row-room : length row ≡ row_size
   pub arrival-room : length arrivals ≡ max_links
 
--- a network that has passed: its counts, the places where its `T`, its `G`, its `H` and its `S` lines start, and its tables, with the signals before the plan
+-- a network that has passed: its counts, the places where its `T`, its `H` and its `S` lines start, and its tables, with the signals before the plan
 pub record Loaded (text : List ℕ) (signals : List Signal) (links : List Link) (movements : List Movement) (times : List ℕ) (reading : Reading) : Type 0 where
   pub counted : CountsHold (lines text) reading.counts
   pub trams-start : Starts text reading.trams_at (tram_line (lines text) 0)
-  pub signals-start : Starts text reading.signals_at (signal_line (lines text) 0)
   pub past-start : Starts text reading.past_at (timeline_line (lines text) 0)
   pub steps-start : Starts text reading.steps_at (step_line (lines text) 0)
   pub signal-table : SignalTable (lines text) signals

@@ -59,14 +59,14 @@ module _ {text : List ℕ} {reading : Reading} {times₀ : List ℕ} (asked : Fo
   module _ {times fields : List ℕ} {at m : ℕ} {timed : Bool} (inv : FormsTo text times fields at timed m) where
     pub forms-done : reading.counts.past ≤ m
         → Judged (block_checks (past_block (lines text))) (FormsHeld text times)
-        (Ok (record { counts = reading.counts; next = at; trams_at = reading.trams_at; signals_at = reading.signals_at; past_at = reading.next; steps_at = reading.steps_at; shortest = reading.shortest; timed = timed }))
+        (Ok (record { counts = reading.counts; next = at; trams_at = reading.trams_at; past_at = reading.next; steps_at = reading.steps_at; shortest = reading.shortest; timed = timed }))
     forms-done h =
         let r = asked.reached in
         let past : past_count (lines text) ≤ m = omega (arith, r.counted.past) in
         let all : m ≡ past_count (lines text) = omega (arith, inv.read.passed.within) in
         judged-passed (passed-all inv.read.passed past)
         (record {
-          reached = record { counted = r.counted; starts = rw steps-after-past at (block-end inv.read past); trams-start = r.trams-start; signals-start = r.signals-start; shortest-time = r.shortest-time };
+          reached = record { counted = r.counted; starts = rw steps-after-past at (block-end inv.read past); trams-start = r.trams-start; shortest-time = r.shortest-time };
           past-start = r.starts;
           told = inv.told ∙ ap (valid_lengths (lines text)) all;
           timed-past = rw all at inv.timed-to;

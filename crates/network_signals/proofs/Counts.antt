@@ -49,7 +49,7 @@ module _ {text old fields : List ℕ} {r : (Option ℕ)} (row : RowRead letter_n
         search (leb-true, and_left, and_right) depth 12
 
     pub counts-passed : not v ≡ false
-        → Judged (count_checks (lines text)) (CountsHeld text) (Ok (record { counts = counts; next = next; trams_at = next; signals_at = next; past_at = next; steps_at = next; shortest = 0; timed = false }))
+        → Judged (count_checks (lines text)) (CountsHeld text) (Ok (record { counts = counts; next = next; trams_at = next; past_at = next; steps_at = next; shortest = 0; timed = false }))
     unfolding count_checks tram_line
     counts-passed n =
         let w = sym judged ∙ not-false v n in

@@ -42,7 +42,7 @@ module _ {text : List ℕ} {reading : Reading} {signals₀ : List Signal} (asked
 
   module _ {signals : List Signal} {at shortest r : ℕ} (inv : SignalsTo text signals at shortest r) where
     pub signals-done : reading.counts.signals ≤ r → Judged (block_checks (signal_block (lines text))) (SignalsHeld text signals)
-        (Ok (record { counts = reading.counts; next = at; trams_at = reading.trams_at; signals_at = reading.next; past_at = reading.past_at; steps_at = reading.steps_at; shortest = shortest; timed = reading.timed }))
+        (Ok (record { counts = reading.counts; next = at; trams_at = reading.trams_at; past_at = reading.past_at; steps_at = reading.steps_at; shortest = shortest; timed = reading.timed }))
     signals-done h =
         let past : signal_count (lines text) ≤ r = omega (arith, asked.counted.signals) in
         let end : r ≡ signal_count (lines text) = omega (arith, inv.read.passed.within) in
@@ -53,7 +53,6 @@ module _ {text : List ℕ} {reading : Reading} {signals₀ : List Signal} (asked
                 counted = asked.counted;
                 starts = rw links-after-signals at (block-end inv.read past);
                 trams-start = asked.trams-start;
-                signals-start = asked.starts;
                 shortest-time = record { least = rw end at inv.least };
               };
           table = record { size = inv.size; holds = rw end at inv.holds };

@@ -53,7 +53,6 @@ pub fn read_counts(text: &[u8]) -> Result<Reading, Refusal>
         counts,
         next,
         trams_at: next,
-        signals_at: next,
         past_at: next,
         steps_at: next,
         shortest: 0,
@@ -167,7 +166,6 @@ pub fn read_signals(
     }
     Ok(Reading {
         next: place,
-        signals_at: reading.next,
         shortest,
         ..reading
     })

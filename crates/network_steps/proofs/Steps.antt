@@ -84,14 +84,14 @@ module _ {text : List ℕ} {reading : Reading} {times₀ demands₀ : List ℕ} 
   module _ {times demands step : List ℕ} {at n : ℕ} (inv : StepsTo text reading.timed times demands step at n) where
     pub steps-done : reading.counts.steps ≤ n
         → Judged (block_checks (step_block (lines text))) (StepsHeld text times demands)
-        (Ok (record { counts = reading.counts; next = at; trams_at = reading.trams_at; signals_at = reading.signals_at; past_at = reading.past_at; steps_at = reading.next; shortest = reading.shortest; timed = reading.timed }))
+        (Ok (record { counts = reading.counts; next = at; trams_at = reading.trams_at; past_at = reading.past_at; steps_at = reading.next; shortest = reading.shortest; timed = reading.timed }))
     steps-done h =
         let past : step_count (lines text) ≤ n = omega (arith, asked.reached.counted.steps) in
         let all : n ≡ step_count (lines text) = omega (arith, inv.read.passed.within) in
         let r = asked.reached in
         judged-passed (passed-all inv.read.passed past)
         (record {
-          reached = record { counted = r.counted; starts = block-end inv.read past; trams-start = r.trams-start; signals-start = r.signals-start; shortest-time = r.shortest-time };
+          reached = record { counted = r.counted; starts = block-end inv.read past; trams-start = r.trams-start; shortest-time = r.shortest-time };
           steps-start = r.starts;
           past-start = asked.past-start;
           told = asked.told;

@@ -28,4 +28,4 @@ module _ {first : Checks} {Held : Reading → Type 0} {stage : (Result Reading R
 
 -- the reading goes on to another line
 pub reached-next : {text : List ℕ} {line : ℕ} {reading : Reading} → Reached text line reading → {other next : ℕ} → Starts text next other → Reached text other (moved_to reading next)
-reached-next r s = record { counted = r.counted; starts = s; trams-start = r.trams-start; signals-start = r.signals-start; shortest-time = r.shortest-time }
+reached-next r s = record { counted = r.counted; starts = s; trams-start = r.trams-start; shortest-time = r.shortest-time }

@@ -5,7 +5,7 @@ use Rattle.text_reader.specs.Lines.{Line, lines}
 use Rattle.text_reader.specs.Reading.{Starts}
 use Rattle.model.specs.declared.Signal.{Signal}
 use Rattle.base_laws.specs.Test.{every}
-use Rattle.model.specs.Network.{max_signals, entry, link_count, signal_count, movement_count, step_count, tram_count, past_count, on_timeline, tram_line, signal_line, link_line, movement_line, timeline_line, step_line, signal, timeline_time}
+use Rattle.model.specs.Network.{max_signals, entry, link_count, signal_count, movement_count, step_count, tram_count, past_count, on_timeline, tram_line, link_line, movement_line, timeline_line, step_line, signal, timeline_time}
 use Rattle.network_tables.specs.declared.Counts.{Counts}
 use Rattle.network_tables.specs.declared.Reading.{Reading}
 use Rattle.network_tables.specs.Places.{Few}
@@ -44,7 +44,6 @@ moved_to reading next =
       counts = reading.counts;
       next = next;
       trams_at = reading.trams_at;
-      signals_at = reading.signals_at;
       past_at = reading.past_at;
       steps_at = reading.steps_at;
       shortest = reading.shortest;
@@ -77,7 +76,6 @@ pub record Reached (text : List ℕ) (line : ℕ) (reading : Reading) : Type 0 w
   pub counted : CountsHold (lines text) reading.counts
   pub starts : Starts text reading.next line
   pub trams-start : Starts text reading.trams_at (tram_line (lines text) 0)
-  pub signals-start : Starts text reading.signals_at (signal_line (lines text) 0)
   pub shortest-time : Shortest (lines text) reading.shortest
 
 -- the trams, the links and the movements, one for each line

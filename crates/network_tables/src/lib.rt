@@ -184,7 +184,7 @@ impl From<Movement> for [u32; MOVEMENT_FIELDS] {
     }
 }
 
-// How far a network text has been read while its lines pass: its counts, the place of the next line, the places where its `T`, its `G`, its `H` and its `S` lines
+// How far a network text has been read while its lines pass: its counts, the place of the next line, the places where its `T`, its `H` and its `S` lines
 // start, the shortest of all greatest times, and whether the lengths of the past steps and the number of all steps are valid: a `bool`, since 30 is told
 // after all lines.
 #[derive(Clone, Copy)]
@@ -192,8 +192,6 @@ pub struct Reading {
     pub counts: Counts,
     pub next: usize,
     pub trams_at: usize,
-    // Read by no function; kept, since a reading that has passed promises it (`signals-start`).
-    pub signals_at: usize,
     pub past_at: usize,
     pub steps_at: usize,
     pub shortest: u32,
