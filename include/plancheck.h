@@ -116,8 +116,8 @@
  *     plancheck_run_cells            2,192    nothing
  *     plancheck_step_vehicles           40    nothing: the places are changed where they stand
  *     plancheck_version                  8    nothing
- * On a Cortex-M0 plancheck_check_network takes 6,264, plancheck_network_counts 6,320, plancheck_check_plan 7,524,
- * plancheck_check_sheet 8,220, plancheck_link_state 5,904 and plancheck_carry_on 7,356 of stack (box/measure).
+ * On a Cortex-M0 plancheck_check_network takes 5,736, plancheck_network_counts 5,760, plancheck_check_plan 6,700,
+ * plancheck_check_sheet 7,692, plancheck_link_state 5,824 and plancheck_carry_on 6,988 of stack (box/measure).
  * plancheck_plan_from_listing is for an engineer's machine, not for a box. The texts of a box are at most
  * PLANCHECK_NETWORK_TEXT_MAX and PLANCHECK_PLAN_TEXT_MAX.
  *
