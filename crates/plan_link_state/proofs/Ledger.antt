@@ -185,12 +185,11 @@ module _ {tables : NetworkTables} {ledger : List ℕ} {n i step : ℕ} (given : 
     start_is = omega arith
 
     module _ (l : step < tables.reading.counts.past) where
-      pub read_asked : ReadAsked tables.text.now tables.reading.counts.links i 0 (step + 1) first
+      pub read_asked : ReadAsked tables.text.now i 0 (step + 1) first
       read_asked =
           record {
-            counted = tab.counted.links;
-            few = tab.counted.few.links;
-            link = omega (arith, own.link, tab.counted.links);
+            link = own.link;
+            few = omega (arith, tab.counted.links, tab.counted.few.links);
             onward = omega arith;
             within = omega (arith, tab.counted.past);
             forms = past-form netw tab.holds;

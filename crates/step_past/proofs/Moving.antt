@@ -1,4 +1,4 @@
--- The links moved on from one boundary to the next, by `H` lines that are read once for all links at them.
+-- The links moved on from one boundary to the next, by `H` lines that are read once for all links at them, or by a number of each.
 use Rattle.base_laws.proofs.Kit.{ℕ, zero, suc, ◌+◌, ◌*◌, ◌-◌, ◌≤◌, ◌<◌, ◌≡◌, refl, ap, ◌∙◌, List, ℕ_discrete, dec_le, add-one, arith, length, get_or, set, length-set, get_or-set_same, get_or-set_other}
 use Rattle.text_reader.specs.Lines.{lines}
 use Rattle.text_reader.specs.Reading.{Starts}
@@ -13,7 +13,7 @@ use Rattle.step_arrivals.specs.Arrivals.{arrival_step_in}
 use Rattle.step_arrivals.proofs.Arrivals.{arrival-on, arrival-reached}
 use Rattle.step_past.specs.declared.Arrival.{Arrival}
 use Rattle.step_past.specs.declared.PastLine.{PastLine}
-use Rattle.step_past.specs.Curves.{no_arrival, arrival_at, past_entered, MovedBy, LinksAsked, LinksMoved, Behind, MoveAsked, PastMoveAsked, Moved}
+use Rattle.step_past.specs.Curves.{no_arrival, arrival_at, past_entered, ReadAsked, ReadGot, MovedBy, LinksAsked, LinksMoved, Behind, MoveAsked, PastMoveAsked, Moved}
 use Rattle.step_past.proofs.Reading.{past-again, past-numbers, past-next, entered-past}
 
 -- ---- the turns of `move_links`
@@ -91,7 +91,7 @@ boundary-time : (times : List ℕ) (n : ℕ) → ((k : ℕ) → k < n → get_or
 boundary-time times zero r = omega arith
 boundary-time times (suc n) r = omega (arith, boundary-time times n (λ k l. r k (omega arith)), rw (add-one n) at (r n (omega arith)))
 
--- ---- the turns of `move_past`
+-- ---- the turns of `move_by_lines`
 pub record PastTo (tables : NetworkTables) (at i : ℕ) (before arrivals : List Arrival) (fields : List ℕ) : Type 0 where
   pub size : length arrivals ≡ max_links
   pub field-size : length fields ≡ past_size
@@ -176,6 +176,48 @@ module _ {tables : NetworkTables} {at i to : ℕ} {before : List Arrival} (asked
                   behind = λ j u o. behind-next line-at j (own-link j o) (inv.behind j u o) (got.each-link j u o);
                   kept = λ j u. got.kept j u ∙ inv.kept j u;
                 }
+
+-- ---- by the link's own numbers
+module _ {tables : NetworkTables} {at i to : ℕ} {arrivals : List Arrival} (asked : PastMoveAsked tables at i to arrivals) where
+  before_it : Behind tables.text.now tables.times.now at i (travel_time_in tables.links.now i) (arrival_at arrivals i)
+  before_it = asked.asked.behind i (omega arith) asked.asked.link
+
+  pub alone-asked : ReadAsked tables.text.now i ((arrival_at arrivals i).step + 1) (to + 1) (arrival_at arrivals i)
+  alone-asked =
+      let tab = asked.asked.move-tables in
+      let own : i < link_count (lines tables.text.now) = omega (arith, asked.asked.link, tab.counted.links) in
+      let onward : (arrival_at arrivals i).step ≤ to = omega (arith, before_it.cursor.behind, asked.is-step) in
+      record {
+        link = own;
+        few = omega (arith, tab.counted.links, tables.sized.few.links);
+        onward = omega arith;
+        within = omega (arith, asked.early, tab.counted.past);
+        forms = tab.forms;
+        fits = λ m u. tab.fits i own m (omega (arith, asked.early, tab.counted.past));
+        curve-from = before_it.curved (omega (arith, asked.early, tab.counted.past));
+      }
+
+  pub alone-moved : {after : Arrival} → ReadGot tables.text.now i ((arrival_at arrivals i).step + 1) (to + 1) (arrival_at arrivals i) after
+      → Moved tables at i arrivals (set arrivals i after)
+  alone-moved {after} got =
+      let stands : arrival_at (set arrivals i after) i ≡ after = get_or-set_same arrivals i after no_arrival (omega (arith, asked.asked.size, asked.asked.link, tables.sized.few.links)) in
+      let there : after.step + 1 ≡ to + 1 = got.there refl in
+      let c = before_it.cursor in
+      let here : Behind tables.text.now tables.times.now at i (travel_time_in tables.links.now i) after =
+      record {
+        cursor = record { rising = c.rising; behind = omega (arith, there, asked.is-step); room = c.room; later = c.later };
+        curved = λ h. rw there got.curve-to;
+      }
+      in
+      record {
+        size = length-set arrivals i after ∙ asked.asked.size;
+        arrived = rw stands (omega (arith, there, asked.is-step));
+        behind = λ j u o. elim (ℕ_discrete j i) [
+          | yes q ↦ rw (q, stands) here
+          | no q ↦ rw (get_or-set_other arrivals i j after no_arrival q) (asked.asked.behind j u o)
+        ];
+        kept = λ j u. get_or-set_other arrivals i j after no_arrival (λ q. omega arith);
+      }
 
 -- ---- the returns of `move_on`
 module _ {tables : NetworkTables} {at i : ℕ} {arrivals : List Arrival} (asked : MoveAsked tables at i arrivals) where

@@ -1,16 +1,16 @@
--- The `H` lines read again for one link.
-use Rattle.base_laws.proofs.Kit.{ℕ, suc, ◌+◌, ◌*◌, ◌≤◌, ◌<◌, ◌≡◌, ap, ◌∙◌, List, [], add-one, arith, length, get_or}
-use Rattle.text_reader.specs.Lines.{Line, lines}
-use Rattle.text_reader.specs.Reading.{Starts}
-use Rattle.model.specs.Network.{link_count, past_count, timeline_line, past_entries}
-use Rattle.model.specs.Table.{letter_h}
+-- The `H` lines read again, whole or for one link.
+use Rattle.base_laws.proofs.Kit.{ℕ, suc, ◌+◌, ◌*◌, ◌≤◌, ◌<◌, ◌≡◌, refl, ap, ◌∙◌, List, [], add-one, arith, length}
+use Rattle.text_reader.specs.Lines.{Line, lines, number}
+use Rattle.text_reader.specs.Reading.{Starts, line_at, next_line}
+use Rattle.text_reader.proofs.Laws.{starts-line, record-within, record-next}
+use Rattle.model.specs.Network.{entry, link_count, past_count, timeline_line, past_entries}
+use Rattle.model.specs.Table.{is_form, letter_h}
 use Rattle.model.proofs.Timeline.{past-inflow, timeline-entered-suc}
 use Rattle.network_tables.specs.Fields.{past_size}
 use Rattle.network_tables.specs.Rows.{LineHeld, ReadAgain}
 use Rattle.network_tables.specs.Tables.{PastNumbers}
-use Rattle.network_tables.proofs.Tables.{past-entries-at}
 use Rattle.step_past.specs.declared.Arrival.{Arrival}
-use Rattle.step_past.specs.Curves.{past_entered, PastForms, CurveTo, ReadAsked}
+use Rattle.step_past.specs.Curves.{past_entered, PastForms, CurveAsked, CurveGot, ReadAsked, ReadGot}
 
 pub timeline-line-suc : (network : List Line) (m : ℕ) → timeline_line network (suc m) ≡ suc (timeline_line network m)
 unfolding timeline_line
@@ -34,39 +34,63 @@ past-again {text} read e forms m h starts = let again = rw e at read in again.he
 pub entered-past : (network : List Line) (m i : ℕ) → m < past_count network → past_entered network (suc m) i ≡ past_entered network m i + past_entries network m i
 entered-past network m i h = timeline-entered-suc network [] m i ∙ ap (λ x. past_entered network m i + x) (past-inflow network [] m i h)
 
+-- ---- by one number of the line
+module _ {text : List ℕ} {i step : ℕ} {first : Arrival} (asked : CurveAsked text i step first) where
+  abbrev line : ℕ
+  line = timeline_line (lines text) step
+
+  pub curve-within : first.place ≤ length text
+  unfolding is_form
+  curve-within = record-within text first.place line asked.curve-from.starts letter_h (1 + 2 * link_count (lines text)) (asked.forms step asked.within)
+
+  entered-next : {value : ℕ} → value ≡ number (line_at text first.place) (1 + 2 * i) → first.stop + value ≡ past_entered (lines text) (suc step) i
+  unfolding past_entries entry
+  entered-next {value} e =
+      omega (
+        arith,
+        e,
+        ap (λ l. number l (1 + 2 * i)) (starts-line text first.place line asked.curve-from.starts),
+        asked.curve-from.ended,
+        entered-past (lines text) step i asked.within,
+      )
+
+  pub stop-fits : {value : ℕ} → value ≡ number (line_at text first.place) (1 + 2 * i) → first.stop + value < 4294967296
+  stop-fits e = omega (arith, entered-next e, asked.fits)
+
+  pub curve-got : {value next : ℕ} → value ≡ number (line_at text first.place) (1 + 2 * i) → next ≡ next_line text first.place
+      → CurveGot text i step (record { step = step; start = first.stop; stop = first.stop + value; place = next })
+  unfolding is_form
+  curve-got {value} {next} e n =
+      record {
+        here = refl;
+        curve-to = record {
+          starts = rw (n, timeline-line-suc (lines text) step)
+              (record-next text first.place line asked.curve-from.starts letter_h (1 + 2 * link_count (lines text)) (asked.forms step asked.within));
+          began = λ k q. let p : k ≡ step = omega arith in rw p asked.curve-from.ended;
+          ended = entered-next e;
+        };
+      }
+
 -- ---- the turns of `read_on`
-pub record ReadTo (text : List ℕ) (i to : ℕ) (fields : List ℕ) (arrival : Arrival) (m : ℕ) : Type 0 where
+pub record ReadTo (text : List ℕ) (i from to : ℕ) (first arrival : Arrival) (m : ℕ) : Type 0 where
   pub onward : m ≤ to
-  pub size : length fields ≡ past_size
-  pub curve-to : CurveTo text i m arrival
+  pub got : ReadGot text i from m first arrival
 
-module _ {text : List ℕ} {links i from to : ℕ} {first : Arrival} (asked : ReadAsked text links i from to first) where
-  pub read-begin : {fields : List ℕ} → length fields ≡ past_size → ReadTo text i to fields first from
-  read-begin size = record { onward = asked.onward; size = size; curve-to = asked.curve-from }
+module _ {text : List ℕ} {i from to : ℕ} {first : Arrival} (asked : ReadAsked text i from to first) where
+  pub read-begin : ReadTo text i from to first first from
+  read-begin = record { onward = asked.onward; got = record { curve-to = asked.curve-from; there = λ e. e } }
 
-  module _ {fields : List ℕ} {arrival : Arrival} {m : ℕ} (inv : ReadTo text i to fields arrival m) where
-    module _ (h : m < to) {next : ℕ} {after : List ℕ} (read : ReadAgain letter_h (1 + 2 * links) text arrival.place fields next after) where
-      below : m < past_count (lines text)
-      below = omega (arith, asked.within)
+  module _ {arrival : Arrival} {m : ℕ} (inv : ReadTo text i from to first arrival m) (h : m < to) where
+    pub read-asked : CurveAsked text i m arrival
+    read-asked =
+        record {
+          link = asked.link;
+          few = asked.few;
+          within = omega (arith, asked.within);
+          forms = asked.forms;
+          fits = asked.fits (suc m) (omega arith);
+          curve-from = inv.got.curve-to;
+        }
 
-      line : LineHeld letter_h (1 + 2 * link_count (lines text)) text (timeline_line (lines text) m) next after
-      line = past-again read (omega (arith, asked.counted)) asked.forms m below inv.curve-to.starts
-
-      entered-next : arrival.stop + get_or after (1 + 2 * i) 0 ≡ past_entered (lines text) (suc m) i
-      entered-next =
-          omega (arith, inv.curve-to.ended, entered-past (lines text) m i below, past-entries-at (past-numbers m line (read.size ∙ inv.size)) i (omega (arith, asked.counted, asked.link)))
-
-      pub stop-fits : arrival.stop + get_or after (1 + 2 * i) 0 < 4294967296
-      stop-fits = omega (arith, entered-next, asked.fits (suc m) (omega arith))
-
-      pub read-next : ReadTo text i to after (record { step = m; start = arrival.stop; stop = arrival.stop + get_or after (1 + 2 * i) 0; place = next }) (m + 1)
-      read-next =
-          record {
-            onward = omega arith;
-            size = read.size ∙ inv.size;
-            curve-to = record {
-              starts = rw (add-one m) (past-next m line);
-              began = λ k q. let p : k ≡ m = omega arith in rw p inv.curve-to.ended;
-              ended = rw (add-one m) entered-next;
-            };
-          }
+    pub read-next : {next : Arrival} → CurveGot text i m next → ReadTo text i from to first next (m + 1)
+    read-next g = record { onward = omega arith; got = record { curve-to = rw add-one g.curve-to; there = λ e. omega (arith, g.here) } }

@@ -37,16 +37,34 @@ pub record CurveTo (text : List ℕ) (i k : ℕ) (arrival : Arrival) : Type 0 wh
   pub began : (m : ℕ) → suc m ≡ k → arrival.start ≡ past_entered (lines text) m i
   pub ended : arrival.stop ≡ past_entered (lines text) k i
 
--- what reading on from one line to another asks
-pub record ReadAsked (text : List ℕ) (links i from to : ℕ) (arrival : Arrival) : Type 0 where
-  pub counted : links ≡ link_count (lines text)
-  pub few : links ≤ max_links
-  pub link : i < links
+-- what reading on by the line of one step asks ..
+pub record CurveAsked (text : List ℕ) (i step : ℕ) (arrival : Arrival) : Type 0 where
+  pub link : i < link_count (lines text)
+  pub few : link_count (lines text) ≤ max_links
+  pub within : step < past_count (lines text)
+  pub forms : PastForms (lines text)
+  pub fits : past_entered (lines text) (suc step) i < 4294967296
+  pub curve-from : CurveTo text i step arrival
+
+-- .. and gives
+pub record CurveGot (text : List ℕ) (i step : ℕ) (arrival : Arrival) : Type 0 where
+  pub here : arrival.step ≡ step
+  pub curve-to : CurveTo text i (suc step) arrival
+
+-- what reading on from one line to another asks ..
+pub record ReadAsked (text : List ℕ) (i from to : ℕ) (arrival : Arrival) : Type 0 where
+  pub link : i < link_count (lines text)
+  pub few : link_count (lines text) ≤ max_links
   pub onward : from ≤ to
   pub within : to ≤ past_count (lines text)
   pub forms : PastForms (lines text)
   pub fits : (m : ℕ) → m ≤ to → past_entered (lines text) m i < 4294967296
   pub curve-from : CurveTo text i from arrival
+
+-- .. and gives
+pub record ReadGot (text : List ℕ) (i from to : ℕ) (before after : Arrival) : Type 0 where
+  pub curve-to : CurveTo text i to after
+  pub there : before.step + 1 ≡ from → after.step + 1 ≡ to
 
 -- ---- row 0
 -- the links are at their standing start in a row

@@ -1,11 +1,11 @@
 // What entered the links in the past, by the `H` lines: row 0, and for each link what had entered it by the start and by the end
 // of the past step in which its travel time ends. No table of the past is kept: each link has the place of the `H` line that is
-// next for it, and a line is read once for all links that it is next for.
+// next for it. Of that line its number alone is read, or the whole line once for all links that it is next for.
 #![tactic(auto)]
 
 ghost use Rattle.std.specs.Prelude.{◌≡◌, ◌+◌, ◌*◌, ◌<◌, ◌≤◌, length};
 ghost use Rattle.network_tables.specs.Fields.{past_entries_in};
-ghost use Rattle.step_past.specs.Curves.{ReadAsked, CurveTo, Started, FindAsked, Found, KeepAsked, Kept, PastAsked, PastLoaded, LinksAsked, LinksMoved, MoveAsked, PastMoveAsked, Moved, NextAsked, NextGot, arrival_after};
+ghost use Rattle.step_past.specs.Curves.{CurveAsked, CurveGot, ReadAsked, ReadGot, Started, FindAsked, Found, KeepAsked, Kept, PastAsked, PastLoaded, LinksAsked, LinksMoved, MoveAsked, PastMoveAsked, Moved, NextAsked, NextGot, arrival_after};
 
 use network_tables::{Link, NetworkTables, PAST_SIZE};
 
@@ -52,29 +52,27 @@ impl PastLine<'_> {
     }
 }
 
-// Reads `H` lines `from` to `to` - 1 for link `i`. `from` stays, though it is 0 where it is called: what the function promises holds from any line on. The width is by
-// hand, since a caller gives the count of links alone.
-pub fn read_on(
-    text: &[u8],
-    links: usize,
-    i: usize,
-    from: usize,
-    to: usize,
-    mut arrival: Arrival,
-) -> Arrival
-    requires { ReadAsked text.now links i from to arrival }
-    ensures { CurveTo text.now i to result }
+// What link `i` waits for at the `H` line of a step, by what it waited for at the one before: of that line its number alone is read.
+fn next_curve(text: &[u8], i: usize, step: usize, arrival: Arrival) -> Arrival
+    requires { CurveAsked text.now i step arrival }
+    ensures { CurveGot text.now i step result }
 {
-    let width = 1 + 2 * links;
-    let mut fields = [0u32; PAST_SIZE];
+    let entries = text_reader::number_at(text, arrival.place, 1 + 2 * i);
+    Arrival {
+        step,
+        start: arrival.stop,
+        stop: arrival.stop + entries.value,
+        place: entries.next,
+    }
+}
+
+// Reads `H` lines `from` to `to` - 1 for link `i`.
+pub fn read_on(text: &[u8], i: usize, from: usize, to: usize, mut arrival: Arrival) -> Arrival
+    requires { ReadAsked text.now i from to arrival }
+    ensures { ReadGot text.now i from to arrival result }
+{
     for step in from..to {
-        let next = network_tables::read_again(text, arrival.place, b'H', &mut fields[..width]);
-        let line = PastLine {
-            step,
-            fields: &fields,
-            next,
-        };
-        arrival = line.after(arrival, i);
+        arrival = next_curve(text, i, step, arrival);
     }
     arrival
 }
@@ -172,10 +170,10 @@ fn move_links(
     }
 }
 
-// Moves link `i`, whose travel time ends in past step `to`, on to the timeline's boundary `at`. An `H` line that is read for it moves the links behind it on too.
-// Not inlined, for check_plan's speed (docs/MEASUREMENTS.md).
+// Moves link `i`, whose travel time ends in past step `to`, on to the timeline's boundary `at`, by whole `H` lines: a line that is read for it moves the links
+// behind it on too. Not inlined, so that its numbers take no stack where one number is read (docs/MEASUREMENTS.md).
 #[inline(never)]
-fn move_past(tables: &NetworkTables, at: usize, i: usize, to: usize, arrivals: &mut [Arrival])
+fn move_by_lines(tables: &NetworkTables, at: usize, i: usize, to: usize, arrivals: &mut [Arrival])
     requires { PastMoveAsked tables.now at i to arrivals.old }
     ensures { Moved tables.now at i arrivals.old arrivals.new }
 {
@@ -194,6 +192,25 @@ fn move_past(tables: &NetworkTables, at: usize, i: usize, to: usize, arrivals: &
         };
         let since = times[at] - times[step];
         move_links(&line, tables, since, i, arrivals);
+    }
+}
+
+// Moves link `i`, whose travel time ends in past step `to`, on to the timeline's boundary `at`. Where the two links behind it wait for the same `H` line, lines are read
+// whole, and move these on too; else of each line the link's number alone is read: to read a line takes as long as to find three of its numbers.
+// Not inlined, for check_plan's speed (docs/MEASUREMENTS.md).
+#[inline(never)]
+fn move_past(tables: &NetworkTables, at: usize, i: usize, to: usize, arrivals: &mut [Arrival])
+    requires { PastMoveAsked tables.now at i to arrivals.old }
+    ensures { Moved tables.now at i arrivals.old arrivals.new }
+{
+    let arrival = arrivals[i];
+    let step = arrival.step;
+    if i + 2 < tables.reading.counts.links
+        && (arrivals[i + 1].step == step) & (arrivals[i + 2].step == step)
+    {
+        move_by_lines(tables, at, i, to, arrivals);
+    } else {
+        arrivals[i] = read_on(tables.text, i, step + 1, to + 1, arrival);
     }
 }
 

@@ -17,7 +17,7 @@ pub read_on-requires : goal.read_on-requires
 read_on-requires c = read_asked c.requires c.if-times-past.true c.if-past-step.false
 
 pub returns-then-times-past : goal.returns-then-times-past
-returns-then-times-past c = past-told c.requires c.if-times-past.true c.if-past-step.false c.read_on.ensures
+returns-then-times-past c = past-told c.requires c.if-times-past.true c.if-past-step.false c.read_on.ensures.curve-to
 
 pub overflow_sub-row : goal.overflow_sub-row
 overflow_sub-row c = in-plan c.requires c.if-times-past.false

@@ -1,17 +1,9 @@
-use Rattle.std.proofs.Common.{rules}
-use Rattle.base_laws.proofs.Kit.{refl}
-use Rattle.network_tables.proofs.Rows.{again_joined}
-use Rattle.step_past.proofs.Moving.{times-asked, links-asked, past-onward, past-line-next}
+-- `step_past::move_past` meets its contract.
+use Rattle.step_past.proofs.Moving.{alone-asked, alone-moved}
 use Rattle.step_past.proofs.move_past.Goals as goal
 
-pub overflow_sub-since : goal.overflow_sub-since
-overflow_sub-since c = let h = times-asked c.requires c.loop-arrivals.invariant c.loop-arrivals-test.true in search rules
+pub read_on-requires : goal.read_on-requires
+read_on-requires c = alone-asked c.requires
 
-pub move_links-requires : goal.move_links-requires
-move_links-requires c = links-asked c.requires c.loop-arrivals.invariant c.loop-arrivals-test.true c.past_width-width.ensures (again_joined (search rules) c.read_again-next.ensures) refl refl refl refl
-
-pub loop-arrivals-smaller : goal.loop-arrivals-smaller
-loop-arrivals-smaller c = let h = past-onward c.requires c.loop-arrivals.invariant c.loop-arrivals-test.true c.past_width-width.ensures (again_joined (search rules) c.read_again-next.ensures) refl refl refl refl c.move_links.ensures in search rules
-
-pub loop-arrivals-preserved : goal.loop-arrivals-preserved
-loop-arrivals-preserved c = past-line-next c.requires c.loop-arrivals.invariant c.loop-arrivals-test.true c.past_width-width.ensures (again_joined (search rules) c.read_again-next.ensures) refl refl refl refl c.move_links.ensures
+pub returns-else-i-tables : goal.returns-else-i-tables
+returns-else-i-tables c = alone-moved c.requires c.read_on.ensures
