@@ -4,13 +4,13 @@ use lib.IntN.{pos}
 use lib.Ieee.{Float, nan, inf, binary64, of_int, of_bits, neg, lt, le, add, sub}
 use Rattle.base_search.specs.Checks.{refusal, verdict, checked, or_else, Verdict}
 use Rattle.base_laws.specs.Indexed.{list}
-use Rattle.traces.specs.Step.{nearer, cut_to, line_for, cut_to_lines, target_of, furthest, moved, leader_of, place_after}
+use Rattle.traces.specs.Step.{nearer, cut_to, line_for, cut_to_lines, target_of, furthest, place_moved_to, leader_of, place_after}
 use Rattle.traces.specs.Call.{million, valid_place, valid_distance, valid_counts, valid_values, step_checks, step_vehicles, places_by, places_after}
 use Rattle.std.specs.Prelude.{Ok, Err}
 
 -- all that a step's computation unfolds
 unfoldable opened : Unit {0}
-unfolding nearer cut_to line_for cut_to_lines target_of furthest moved leader_of place_after list million valid_place valid_distance valid_counts valid_values step_checks step_vehicles places_by places_after verdict checked or_else lt le add sub neg of_int of_bits
+unfolding nearer cut_to line_for cut_to_lines target_of furthest place_moved_to leader_of place_after list million valid_place valid_distance valid_counts valid_values step_checks step_vehicles places_by places_after verdict checked or_else lt le add sub neg of_int of_bits
 opened = tt
 
 abbrev m : ℕ → Float

@@ -5,7 +5,7 @@ use lib.Ieee.Scale.{finite}
 use Rattle.traces.specs.declared.Vehicle.{Vehicle}
 use Rattle.traces.specs.declared.Obstacle.{Obstacle}
 use Rattle.traces.specs.declared.Obstacle.TheVariants.{OpenRoad, LeaderPlace, RedLine}
-use Rattle.traces.specs.Step.{nearer, cut_to, line_for, cut_to_lines, target_of, furthest, moved}
+use Rattle.traces.specs.Step.{nearer, cut_to, line_for, cut_to_lines, target_of, furthest, place_moved_to}
 use Rattle.base_floats.proofs.Sums.{between}
 use Rattle.base_floats.proofs.Order.{float-le-trans, float-lt-le, float-total, float-le-refl, float-lt-self}
 
@@ -102,8 +102,8 @@ module _ (spacing : Float) (vehicle : Vehicle) (ahead : Obstacle) (lines : List 
   at-start = lines_cut spacing vehicle.place lines start first.real all
 
   -- where it ends: at the target, which is ahead, or where it was
-  pub ends : ((moved spacing vehicle ahead lines ≡ target) × (lt vehicle.place target ≡ true)) ⊎ (moved spacing vehicle ahead lines ≡ vehicle.place)
-  unfolding target_of moved furthest
+  pub ends : ((place_moved_to spacing vehicle ahead lines ≡ target) × (lt vehicle.place target ≡ true)) ⊎ (place_moved_to spacing vehicle ahead lines ≡ vehicle.place)
+  unfolding target_of place_moved_to furthest
   ends = go (lt vehicle.place target) refl
     where
       go : (b : Bool) → lt vehicle.place target ≡ b
@@ -111,32 +111,32 @@ module _ (spacing : Float) (vehicle : Vehicle) (ahead : Obstacle) (lines : List 
       go true h = inl (refl, h)
       go false h = inr refl
 
-  pub moved-not-back : le vehicle.place (moved spacing vehicle ahead lines) ≡ true
+  pub moved-not-back : le vehicle.place (place_moved_to spacing vehicle ahead lines) ≡ true
   moved-not-back = elim ends [
     | inl e ↦ rw e.0 (float-lt-le vehicle.place target e.1)
     | inr e ↦ rw e (float-le-refl vehicle.place here)
   ]
 
   pub moved-not-across : (j : ℕ) → j < length lines → le vehicle.place (get_or lines j nan) ≡ true
-      → le (moved spacing vehicle ahead lines) (get_or lines j nan) ≡ true
+      → le (place_moved_to spacing vehicle ahead lines) (get_or lines j nan) ≡ true
   moved-not-across j h a = elim ends [
     | inl e ↦ rw e.0 (each_line spacing vehicle.place lines start first.real all j h a)
     | inr e ↦ rw e a
   ]
 
   -- one that moves goes at most to its place plus its advance, cut to what is ahead
-  pub moved-to-start : lt vehicle.place (moved spacing vehicle ahead lines) ≡ true → le (moved spacing vehicle ahead lines) start ≡ true
+  pub moved-to-start : lt vehicle.place (place_moved_to spacing vehicle ahead lines) ≡ true → le (place_moved_to spacing vehicle ahead lines) start ≡ true
   moved-to-start m = elim ends [
     | inl e ↦ rw e.0 at-start.at_most
     | inr e ↦ float-lt-self vehicle.place (rw e at m)
   ]
 
-  pub moved-within : lt vehicle.place (moved spacing vehicle ahead lines) ≡ true
-      → le (moved spacing vehicle ahead lines) (add binary64 vehicle.place vehicle.advance) ≡ true
+  pub moved-within : lt vehicle.place (place_moved_to spacing vehicle ahead lines) ≡ true
+      → le (place_moved_to spacing vehicle ahead lines) (add binary64 vehicle.place vehicle.advance) ≡ true
   moved-within m = float-le-trans _ start _ (moved-to-start m) first.at_most
 
   pub moved-finite : finite vehicle.place ≡ true → finite (add binary64 vehicle.place vehicle.advance) ≡ true
-      → finite (moved spacing vehicle ahead lines) ≡ true
+      → finite (place_moved_to spacing vehicle ahead lines) ≡ true
   moved-finite p q = elim ends [
     | inl e ↦
         rw e.0
@@ -149,8 +149,8 @@ module _ (spacing : Float) (vehicle : Vehicle) (ahead : Obstacle) (lines : List 
 pub moved-behind : (spacing : Float) (vehicle : Vehicle) (leader : Float) (lines : List Float)
     → is_nan vehicle.place ≡ false → is_nan (add binary64 vehicle.place vehicle.advance) ≡ false
     → is_nan (sub binary64 leader spacing) ≡ false → ((j : ℕ) → j < length lines → is_nan (get_or lines j nan) ≡ false)
-    → lt vehicle.place (moved spacing vehicle (LeaderPlace leader) lines) ≡ true
-    → le (moved spacing vehicle (LeaderPlace leader) lines) (sub binary64 leader spacing) ≡ true
+    → lt vehicle.place (place_moved_to spacing vehicle (LeaderPlace leader) lines) ≡ true
+    → le (place_moved_to spacing vehicle (LeaderPlace leader) lines) (sub binary64 leader spacing) ≡ true
 moved-behind spacing vehicle leader lines here sum front all m =
     float-le-trans _ _ _ (moved-to-start spacing vehicle (LeaderPlace leader) lines here sum front all m)
     (leader-cut spacing leader (add binary64 vehicle.place vehicle.advance) front sum)

@@ -5,7 +5,7 @@ use Rattle.base_laws.specs.Indexed.{list, filled}
 use Rattle.base_laws.proofs.Laws.{filled_none, filled-past, filled_more, filled-all}
 use Rattle.traces.specs.declared.Obstacle.{Obstacle}
 use Rattle.traces.specs.declared.Obstacle.TheVariants.{OpenRoad, LeaderPlace}
-use Rattle.traces.specs.Step.{moved, leader_of, place_after}
+use Rattle.traces.specs.Step.{place_moved_to, leader_of, place_after}
 
 -- what is ahead of vehicle i is the last place of the one before it, and those before it have moved
 pub record Moving (old advances lines : List Float) (spacing : Float) (places : List Float) (ahead : Obstacle) (i : ℕ) : Type 0 where
@@ -18,7 +18,7 @@ module _ (old advances lines : List Float) (spacing : Float) where
   moving_none = record { leader = refl; so_far = filled_none (place_after old advances lines spacing) old }
 
   module _ (places : List Float) (ahead : Obstacle) (i : ℕ) (before : Moving old advances lines spacing places ahead i) where
-    pub moving_more : (next : Float) → i < length old → next ≡ moved spacing (record { place = get_or places i nan; advance = get_or advances i nan }) ahead lines
+    pub moving_more : (next : Float) → i < length old → next ≡ place_moved_to spacing (record { place = get_or places i nan; advance = get_or advances i nan }) ahead lines
         → Moving old advances lines spacing (set places i next) (LeaderPlace (get_or places i nan)) (i + 1)
     unfolding leader_of place_after
     moving_more next h e =

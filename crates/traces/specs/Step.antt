@@ -34,8 +34,8 @@ target_of spacing vehicle ahead lines =
 unfoldable pub furthest : Float → Float → Float
 furthest place target = cond (lt place target) target place
 
-unfoldable pub moved : Float → Vehicle → Obstacle → List Float → Float
-moved spacing vehicle ahead lines = furthest vehicle.place (target_of spacing vehicle ahead lines)
+unfoldable pub place_moved_to : Float → Vehicle → Obstacle → List Float → Float
+place_moved_to spacing vehicle ahead lines = furthest vehicle.place (target_of spacing vehicle ahead lines)
 
 -- what is ahead of vehicle i: the place before the step of the vehicle listed just before it
 unfoldable pub leader_of : List Float → ℕ → Obstacle
@@ -45,4 +45,4 @@ leader_of places (suc i) = LeaderPlace (get_or places i nan)
 -- the place of vehicle i after the step
 unfoldable pub place_after : List Float → List Float → List Float → Float → ℕ → Float
 place_after places advances lines spacing i =
-    moved spacing (record { place = get_or places i nan; advance = get_or advances i nan }) (leader_of places i) lines
+    place_moved_to spacing (record { place = get_or places i nan; advance = get_or advances i nan }) (leader_of places i) lines

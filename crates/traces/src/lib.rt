@@ -5,7 +5,7 @@ ghost use Rattle.std.specs.Prelude.{◌≡◌, length};
 ghost use Rattle.std.specs.List.{list_all};
 ghost use Rattle.base_search.specs.Checks.{checked};
 ghost use Rattle.base_laws.specs.Indexed.{list};
-ghost use Rattle.traces.specs.Step.{nearer, cut_to, line_for, moved, place_after};
+ghost use Rattle.traces.specs.Step.{nearer, cut_to, line_for, place_moved_to, place_after};
 ghost use Rattle.traces.specs.Call.{valid_place, valid_distance, valid_counts, valid_values, step_vehicles, places_after};
 ghost use Rattle.traces.specs.Guarantees.{StepKeeps};
 
@@ -68,9 +68,9 @@ fn line_for(place: f64, line: f64) -> Obstacle
 }
 
 // Where a vehicle stands after the step.
-#[tactic(auto, unfolding(crate::specs::Step::moved, crate::specs::Step::target_of, crate::specs::Step::cut_to_lines, crate::specs::Step::furthest))]
+#[tactic(auto, unfolding(crate::specs::Step::place_moved_to, crate::specs::Step::target_of, crate::specs::Step::cut_to_lines, crate::specs::Step::furthest))]
 fn move_one(vehicle: Vehicle, ahead: Obstacle, red_lines: &[f64], spacing: f64) -> f64
-    ensures { result ≡ moved spacing vehicle ahead red_lines.now }
+    ensures { result ≡ place_moved_to spacing vehicle ahead red_lines.now }
 {
     let place = vehicle.place;
     let start = cut_to(ahead, spacing, place + vehicle.advance);
