@@ -9,7 +9,7 @@ use Rattle.text_reader.specs.Lines.{lines}
 use Rattle.text_reader.proofs.Opened.{opened as lines_opened}
 use Rattle.base_laws.specs.Indexed.{list}
 use Rattle.cells_steps.specs.Steps.{inflow, outflow, flow, volume_after, after, volumes_after, total_in, total_out}
-use Rattle.cells_lines.specs.Corridor.{cell_of, start_of, valid_cell, cell_form, start_held, volume_form, cell_count, demand_line, demand_count, cell_line_checks, cell_checks, exit_check, demand_check, demand_checks, corridor_checks, chain, starts, demand, demands}
+use Rattle.cells_lines.specs.Corridor.{cell_of, start_of, valid_cell, cell_form, start_held, volume_form, cell_count, demand_line, demand_count, cell_line_checks, cell_checks, exit_check, demand_check, demand_checks, corridor_checks, chain, starts, demand_volume, demands}
 use Rattle.cells_call.specs.declared.CellsRun.{CellsRun}
 use Rattle.cells_call.specs.Call.{padded, volumes_of, final_volumes, run_of, answer_of, run_cells}
 
@@ -23,7 +23,7 @@ unfolding verdict checked or_else first_from lines_opened cell_of start_of valid
 checks-opened = tt
 
 unfoldable opened : Unit {0}
-unfolding checks-opened list inflow outflow flow volume_after after volumes_after total_in total_out chain starts demand demands padded volumes_of final_volumes run_of answer_of run_cells
+unfolding checks-opened list inflow outflow flow volume_after after volumes_after total_in total_out chain starts demand_volume demands padded volumes_of final_volumes run_of answer_of run_cells
 opened = tt
 
 -- a text: its answer, by the volumes after its steps, and these

@@ -10,7 +10,7 @@ use Rattle.text_reader.specs.Reading.{line_at, at_end, Starts}
 use Rattle.text_reader.proofs.Laws.{starts-line, starts-end, starts-plus}
 use Rattle.base_laws.specs.Indexed.{filled}
 use Rattle.base_laws.proofs.Laws.{filled_none, filled_more}
-use Rattle.cells_lines.specs.Corridor.{letter_d, demand_line, demand_count, demand_check, demand_checks, demand, volume_form}
+use Rattle.cells_lines.specs.Corridor.{letter_d, demand_line, demand_count, demand_check, demand_checks, demand_volume, volume_form}
 use Rattle.cells_lines.specs.Reading.{VolumeRead, DemandsAsked, DemandsRead}
 use Rattle.cells_lines.proofs.Lines.{record-inside}
 
@@ -19,7 +19,7 @@ pub record DemandsReading (text : List ℕ) (cells : ℕ) (table₀ table : List
   pub begins : Starts text place (cells + 1 + k)
   pub inside : cells + 1 + k ≤ length (lines text)
   pub passed : (j : ℕ) → j < k → verdict (demand_check (lines text) j) ≡ Ok tt
-  pub are : table ≡ filled (demand (lines text)) table₀ k
+  pub are : table ≡ filled (demand_volume (lines text)) table₀ k
 
 module _ {text : List ℕ} {cells at : ℕ} {table₀ : List ℕ} (asked : DemandsAsked text at cells table₀) where
   pub demands-none : DemandsReading text cells table₀ table₀ at 0
@@ -88,13 +88,13 @@ module _ {text : List ℕ} {cells at : ℕ} {table₀ : List ℕ} (asked : Deman
         )
 
     pub demands-more : {v next : ℕ} → VolumeRead letter_d text place v next → k < 120 → DemandsReading text cells table₀ (set table k v) next (k + 1)
-    unfolding demand demand_check verdict checked
+    unfolding demand_volume demand_check verdict checked
     demands-more {v} {next} read few =
         let same : cells + 1 + (k + 1) ≡ cells + 1 + k + 1 = omega arith in
-        let value : v ≡ demand (lines text) k = read.volume-is ∙ ap (λ line. number line 0) line-is in
+        let value : v ≡ demand_volume (lines text) k = read.volume-is ∙ ap (λ line. number line 0) line-is in
         record {
           begins = rw same (starts-plus text place (cells + 1 + k) g.begins letter_d 1 next read.place);
           inside = omega (arith, record-inside letter_d 1 text place (cells + 1 + k) next (omega arith) g.begins read.place);
           passed = below_more _ k g.passed (rw (lt-ltb k 120 few, ← line-is, read.form));
-          are = ap (λ list. set list k v) g.are ∙ filled_more (demand (lines text)) table₀ k v (omega (arith, asked.size)) value;
+          are = ap (λ list. set list k v) g.are ∙ filled_more (demand_volume (lines text)) table₀ k v (omega (arith, asked.size)) value;
         }

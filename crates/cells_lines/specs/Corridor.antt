@@ -87,8 +87,8 @@ module _ (text : List Line) where
   starts = list (cell_count text) (λ i. start_of (get_or text i no_line))
 
   -- demand k
-  unfoldable pub demand : ℕ → ℕ
-  demand k = number (get_or text (demand_line k) no_line) 0
+  unfoldable pub demand_volume : ℕ → ℕ
+  demand_volume k = number (get_or text (demand_line k) no_line) 0
 
   unfoldable pub demands : List ℕ
-  demands = list demand_count demand
+  demands = list demand_count demand_volume

@@ -7,7 +7,7 @@ use Rattle.base_laws.specs.Indexed.{filled}
 use Rattle.cells_steps.specs.declared.Cell.{Cell}
 use Rattle.cells_steps.specs.Steps.{chain_of}
 use Rattle.cells_lines.specs.declared.Corridor.{Corridor}
-use Rattle.cells_lines.specs.Corridor.{letter_c, cell_of, start_of, cell_line_checks, volume_form, cell_count, demand_count, cell_checks, demand_checks, corridor_checks, chain, starts, demand, demands}
+use Rattle.cells_lines.specs.Corridor.{letter_c, cell_of, start_of, cell_line_checks, volume_form, cell_count, demand_count, cell_checks, demand_checks, corridor_checks, chain, starts, demand_volume, demands}
 
 -- ---- one line
 -- the line at a place passes as `C` line n: its cell, the cell's start, and the place of the next line
@@ -44,7 +44,7 @@ pub record DemandsRead (text : List ℕ) (count : ℕ) (table₀ table : List �
   pub passed : verdict (demand_checks (lines text)) ≡ Ok tt
   pub counted : count ≡ demand_count (lines text)
   pub few : count ≤ 120
-  pub are : table ≡ filled (demand (lines text)) table₀ count
+  pub are : table ≡ filled (demand_volume (lines text)) table₀ count
 
 -- ---- the whole text
 pub record CorridorRead (text : List ℕ) (corridor : Corridor) (volumes₀ : List ℕ) (cells : List Cell) (volumes table : List ℕ) : Type 0 where
