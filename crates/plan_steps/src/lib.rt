@@ -41,7 +41,7 @@ impl Place {
 }
 
 // The state at a boundary: the place of the next step's lines, the totals so far, and how many wait outside.
-// The signals stand in a table that is lent and stepped in place, as the paper has its lights: in the state, each step would copy eight of 88 bytes.
+// The signals stand beside it, in a lent table, from which each is judged and stepped on by value: in the state, each step would copy eight of 88 bytes.
 #[derive(Clone, Copy)]
 pub struct State {
     pub place: Place,

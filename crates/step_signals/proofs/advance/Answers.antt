@@ -4,8 +4,8 @@ use Rattle.step_signals.proofs.advance.Goals as goal
 pub loop-r-init : goal.loop-r-init
 loop-r-init c = advancing-none
 
-pub step_on-requires-clause-ready : goal.step_on-requires-clause-ready
-step_on-requires-clause-ready c = ready-part c.requires c.loop-r-test.true c.loop-r.invariant
+pub after-requires-clause-ready : goal.after-requires-clause-ready
+after-requires-clause-ready c = ready-part c.requires c.loop-r-test.true c.loop-r.invariant
 
 pub returns : goal.returns
 returns c = advanced-part c.requires c.loop-r-test.false c.loop-r.invariant
