@@ -5,7 +5,6 @@
 ghost use Rattle.std.specs.Prelude.{◌≡◌, ◌≤◌, length};
 ghost use Rattle.text_reader.specs.Lines.{lines};
 ghost use Rattle.text_reader.specs.Padding.{PaddingIgnored};
-ghost use Rattle.model.specs.Signals.{phase_after};
 ghost use Rattle.network.specs.Loading.{TablesLoaded};
 ghost use Rattle.sheet_lines.specs.Reading.{number_in};
 ghost use Rattle.model_sheet.specs.Promises.{WritePromises};
@@ -23,14 +22,6 @@ use sheet_lines::{SHEET_FIELDS, SheetLine};
 pub struct Run {
     pub phase: u32,
     pub remaining: u32,
-}
-
-// The phase after one of so many. Not by cases as `next_phase` of step_signals is, which is rule 11: that is only as far as eight phases go.
-fn phase_after(phase: u32, phases: u32) -> u32
-    requires { phase ≤ 8 }
-    ensures { result ≡ phase_after phases phase }
-{
-    if phase == phases { 1 } else { phase + 1 }
 }
 
 // The cycle of a signal of so many phases, by its line of a sheet that has passed. The offset stays in the line, behind the durations: the definitions
@@ -73,7 +64,7 @@ impl Cycle<'_> {
                 ..run
             };
         }
-        let phase = phase_after(run.phase, self.phases);
+        let phase = step_signals::phase_after(run.phase, self.phases);
         let place = step_signals::place_of(phase);
         Run {
             phase,

@@ -5,7 +5,7 @@
 
 ghost use Rattle.std.specs.Prelude.{◌≡◌, true, ◌-◌, ◌^◌, ◌≤◌, length};
 ghost use Rattle.model.specs.Network.{max_signals};
-ghost use Rattle.model.specs.Signals.{phase_of, opens, next_phase, begins_cycle, greatest_time, shown_for_after, clock_after, keeps_order, keeps_least_time, keeps_greatest_time, keeps_cycle, after};
+ghost use Rattle.model.specs.Signals.{phase_of, opens, phase_after, begins_cycle, greatest_time, shown_for_after, clock_after, keeps_order, keeps_least_time, keeps_greatest_time, keeps_cycle, after};
 ghost use Rattle.step_signals.specs.Ready.{Ready, AllReady};
 ghost use Rattle.step_signals.specs.Rules.{signal_rule_number, signal_test, keeps_ordinary_rules, keeps_all, goes_on, SignalRulesKept, SignalTables};
 ghost use Rattle.step_signals.specs.Step.{ShownPhases, HeldMasks, stepped, AdvanceAsked, Advanced};
@@ -63,16 +63,15 @@ pub fn opens(mask: u32, phase: u32) -> bool
     (mask >> place) % 2 == 1
 }
 
-// The phase after the shown one, by cases (C8), as the paper has it: after P comes 1, after any other k comes k + 1. Where none is shown, it is 1.
-fn next_phase(signal: Signal) -> u32
-    requires { Ready signal }
-    ensures { result ≡ next_phase signal }
+// The phase after one of so many, by cases (C8), as the paper has it: after P comes 1, after any other k comes k + 1. After phase 0, which is none, it is 1.
+pub fn phase_after(phase: u32, phases: u32) -> u32
+    requires { (phase ≤ phases) × (phases ≤ 8) }
+    ensures { result ≡ phase_after phases phase }
 {
-    if signal.shown == signal.phases {
+    if phase == phases {
         return 1;
     }
-    let shown = signal.shown;
-    match shown {
+    match phase {
         1 => 2,
         2 => 3,
         3 => 4,
@@ -125,7 +124,7 @@ fn keeps_order(signal: Signal, phase: u32) -> bool
     requires { Ready signal }
     ensures { result ≡ keeps_order signal phase }
 {
-    (phase == signal.shown) | (phase == next_phase(signal))
+    (phase == signal.shown) | (phase == phase_after(signal.shown, signal.phases))
 }
 
 // Rule 12 (C14): a phase that is left has shown at least its least time.
