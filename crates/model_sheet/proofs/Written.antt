@@ -1,7 +1,6 @@
 -- The plan that is written for a sheet: it reads back, refusal 9 does not arise of it, and its masks keep the sheet without its offsets.
-use Rattle.base_laws.proofs.Kit.{◌≡◌, sym, ap, ◌∙◌, true, List, ℕ, suc, ◌+◌, ◌*◌, ◌-◌, ◌^◌, ◌≤◌, ◌<◌, le_trans, pow-le-pow_right, dec_lt, arith, eq-eqb, le-leb, lt-ltb, le-ltb, length, get_or, List·getD-eq-default}
+use Rattle.base_laws.proofs.Kit.{◌≡◌, sym, ap, ◌∙◌, true, List, ℕ, suc, ◌+◌, ◌*◌, ◌-◌, ◌^◌, ◌≤◌, ◌<◌, dec_lt, arith, eq-eqb, le-leb, lt-ltb, le-ltb, length, get_or, List·getD-eq-default}
 use Rattle.base_search.specs.Checks.{Hold}
-use Rattle.text_reader.specs.Field.{largest}
 use Rattle.text_reader.specs.Lines.{Line, lines}
 use Rattle.text_writer.proofs.Records.{Small, text-back, lines-count, entry-back, form-back}
 use Rattle.base_laws.specs.Sum.{only}
@@ -15,6 +14,7 @@ use Rattle.base_laws.proofs.Sums.{list_length, list_at}
 use Rattle.model.proofs.Accepted.{ValidNetwork}
 use Rattle.model.proofs.Limits.{counts}
 use Rattle.model.proofs.Hold.{meant-lines}
+use Rattle.model.proofs.Phases.{bit-small}
 use Rattle.sheet_lines.specs.Sheet.{letter_f, phases_of, duration, valid_durations, valid_offset, valid_numbers, sheet_line_checks, signals_checks, sheet_checks}
 use Rattle.model_sheet.specs.Cycle.{cycle_place, cycle_phase, phase_at, fits_at, sheet_phase, fits, boundary_checks, sheet_numbers, sheet_plan, sheet_text, plain_sheet}
 use Rattle.model_sheet.specs.Promises.{PlanWritten}
@@ -27,9 +27,6 @@ use Rattle.model_sheet.proofs.Masks.{Fits, duration-is, mask_is, keeps-run}
 use Rattle.model_sheet.proofs.Checks.{two-phases, durations-valid, fits-of-checks}
 
 -- ---- the plan's lines
-bit-small : (q : ℕ) → q ≤ 8 → 2 ^ (q - 1) ≤ largest
-bit-small q h = le_trans (pow-le-pow_right {n = 2} (omega arith) (let l : q - 1 ≤ 7 = omega arith in l)) (omega arith)
-
 module _ (network sheet : List Line) where
   abbrev masks : ℕ → ℕ → ℕ
   masks n r = 2 ^ (sheet_phase network sheet n r - 1)
