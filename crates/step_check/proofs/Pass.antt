@@ -1,10 +1,10 @@
 -- The pass over all rules.
-use Rattle.base_laws.proofs.Kit.{ℕ, ◌+◌, ◌*◌, ◌≡◌, sym, ap, Bool, true, List, ◌++◌, length, drop, drop_at}
+use Rattle.base_laws.proofs.Kit.{ℕ, ◌+◌, ◌*◌, ◌≡◌, sym, ap, Bool, true, List, ◌++◌, drop, drop_at}
 use Rattle.network_tables.specs.Fields.{length_in}
 use Rattle.step_signals.specs.Rules.{SignalRulesKept}
 use Rattle.step_limits.specs.Limits.{LimitsKept}
 use Rattle.step_rows.specs.declared.Step.{Step}
-use Rattle.step_rows.specs.Rows.{next_row}
+use Rattle.step_rows.specs.Rows.{next_row, RowAlone}
 use Rattle.step_rows.proofs.Next.{length-next}
 use Rattle.step_sums.specs.Sums.{SumsKept}
 use Rattle.step_check.specs.Step.{made_row, PassGot}
@@ -19,11 +19,10 @@ made-rest step previous row = drop_at (next_row step.counts step.plan_line.now s
 
 module _ {step : Step} {previous row after : List ℕ} where
   -- the row is formed, and the sums decide
-  pub pass-ends : after ≡ made_row step previous row → length after ≡ length row
+  pub pass-ends : after ≡ made_row step previous row → RowAlone step.counts row after
       → SignalRulesKept step.signals.now step.counts.signals step.phases.now step.asked.now (length_in step.step_line.now) → LimitsKept step
       → {b : Bool} → (b ≡ true → SumsKept step previous after) → PassGot step previous row b after
-  pass-ends made size of_signals limits sums = record {
+  pass-ends made alone of_signals limits sums = record {
     told = λ t. record { told = sym (all_pass step previous _ of_signals limits (rw made at (sums t)) (step.boundary + 1)); made = λ p. made };
-    size = size;
-    rest = rw made (made-rest step previous row);
+    alone = alone;
   }

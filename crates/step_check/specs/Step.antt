@@ -7,7 +7,7 @@ use Rattle.network_tables.specs.Fields.{row_size, length_in}
 use Rattle.step_signals.specs.declared.SignalRule.TheVariants.{OnePhase, TramPhase, Order, LeastTime, GreatestTime, Cycle}
 use Rattle.step_signals.specs.Rules.{signal_rule_number, signal_rule_holds}
 use Rattle.step_rows.specs.declared.Step.{Step}
-use Rattle.step_rows.specs.Rows.{next_row, Fits}
+use Rattle.step_rows.specs.Rows.{next_row, Fits, RowAlone}
 use Rattle.step_limits.specs.declared.LimitRule.TheVariants.{Offer, ExitRate, MovementRate, OpenLink}
 use Rattle.step_limits.specs.Limits.{limit_rule_number, limit_items, limit_rule_holds, LimitsKept}
 use Rattle.step_sums.specs.declared.SumRule.{SumRule}
@@ -86,5 +86,4 @@ pub record Judged (step : Step) (previous row : List ℕ) (result : Verdict) (af
 -- what a pass over all rules promises: if it says that they are kept, they are; and past the row nothing is written
 pub record PassGot (step : Step) (previous row : List ℕ) (result : Bool) (after : List ℕ) : Type 0 where
   pub told : result ≡ true → Judged step previous row (Ok tt) after
-  pub size : length after ≡ length row
-  pub rest : drop (2 * step.counts.links) after ≡ drop (2 * step.counts.links) row
+  pub alone : RowAlone step.counts row after

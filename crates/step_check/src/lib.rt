@@ -1,9 +1,10 @@
-// The judgement of one step of a plan: rules 10 to 18, 25 to 27 and 29 in their order, each over rising items. Most steps keep all of them, which one pass over
-// signals, links and movements finds; otherwise the rules are searched for the first that is broken. The sums of rules 16 to 18 are formed only once
-// the limits of the volumes (15, 25 to 27) are kept, so that they fit.
+// The judgement of one step of a plan: rules 10 to 18, 25 to 27 and 29 in their order, each over rising items. Most steps keep all of them, which a pass
+// finds. It goes over the signals once. It goes over links and movements twice: to test the limits of their volumes (15, 25 to 27) while it forms the row after the step,
+// and to test the sums of 16 to 18, which read the whole row. Otherwise the rules are searched for the first that is broken; there the row is formed only once the limits
+// are kept, so that its sums fit.
 #![tactic(auto)]
 
-ghost use Rattle.std.specs.Prelude.{◌≡◌, ◌<◌};
+ghost use Rattle.std.specs.Prelude.{◌≡◌, ◌*◌, ◌<◌, ◌≤◌, length};
 ghost use Rattle.step_rows.specs.Rows.{Fits};
 ghost use Rattle.step_check.specs.Step.{rule_number, rule_items, first_sum, row_before, FormedFor, rule_holds, RuleRows, JudgeAsked, Judged, PassGot};
 
@@ -119,9 +120,10 @@ fn first_break(step: &Step, previous: &[u32], row: &mut [u32]) -> Result<(), Ref
     found
 }
 
-// Whether the step keeps every rule, by one pass over the signals, one over the links and one over the movements, then the row after it and the sums.
+// Whether the step keeps every rule: first the signals, then the limits of links and movements, by which the row after it is formed, then the sums of that row.
 fn keeps_rules(step: &Step, previous: &[u32], row: &mut [u32]) -> bool
-    requires { JudgeAsked step.now previous.now row.old }
+    requires asked { JudgeAsked step.now previous.now row.old }
+    requires before { 2 * step.now.counts.links ≤ length previous.now }
     ensures { PassGot step.now previous.now row.old result row.new }
 {
     let count = step.counts.signals;
@@ -129,10 +131,9 @@ fn keeps_rules(step: &Step, previous: &[u32], row: &mut [u32]) -> bool
     if !step_signals::keeps_signal_rules(step.signals, count, step.phases, step.asked, seconds) {
         return false;
     }
-    if !step_limits::keeps_limits(step) {
+    if !step_limits::row_within_limits(step, previous, row) {
         return false;
     }
-    step_rows::next_row(previous, step.plan_line, step.movements, step.counts, row);
     let rows = StepRows {
         step,
         previous,

@@ -1,11 +1,12 @@
 -- Rules 15 and 25 to 27 at one step, as tests of the program's tables. Links, movements and signals are counted from 0, a link's signal and a movement's links from 1.
-use Rattle.std.specs.Prelude.{◌≡◌, Bool, true, List, ℕ, ◌*◌, ◌-◌, ◌<◌, leb, eqb, get_or}
+use Rattle.std.specs.Prelude.{◌≡◌, Bool, true, List, ◌++◌, ℕ, ◌*◌, ◌-◌, ◌<◌, leb, eqb, get_or, drop}
 use Rattle.base_laws.specs.Test.{◌or◌}
 use Rattle.model.specs.Signals.{opens}
 use Rattle.network_tables.specs.declared.Counts.{Counts}
 use Rattle.network_tables.specs.declared.Link.{Link}
 use Rattle.network_tables.specs.Fields.{exit_rate_in, signal_in, phase_mask_in, link_in, rate_in, length_in, admitted_in, let_out_in, moved_in}
 use Rattle.step_rows.specs.declared.Step.{Step}
+use Rattle.step_rows.specs.Rows.{pairs, base_entered, base_left, next_row, Base, Room, Added, Fits, RowAlone}
 use Rattle.step_rows.specs.Waiting.{offer_in}
 use Rattle.step_limits.specs.declared.LimitRule.{LimitRule}
 use Rattle.step_limits.specs.declared.LimitRule.TheVariants.{Offer, ExitRate, MovementRate, OpenLink}
@@ -64,3 +65,21 @@ MovementLimitsKept step n = (j : ℕ) → j < n → MovementKept step j
 pub record LimitsKept (step : Step) : Type 0 where
   pub of-links : LinkLimitsKept step step.counts.links
   pub of-movements : MovementLimitsKept step step.counts.movements
+
+-- the first n links keep their limits, and a row has begun with them; the first m movements keep theirs, and have been added to it. Its sums wrap, so that the row is
+-- told only where they fit
+pub record LinksPassed (step : Step) (previous before : List ℕ) (n : ℕ) (row : List ℕ) : Type 0 where
+  pub kept : LinkLimitsKept step n
+  pub begun : Base step.counts step.plan_line.now previous before
+      → row ≡ pairs (base_entered step.counts step.plan_line.now previous) (base_left step.counts step.plan_line.now previous) n ++ drop (2 * n) before
+
+pub record MovementsPassed (step : Step) (before : List ℕ) (m : ℕ) (row : List ℕ) : Type 0 where
+  pub kept : MovementLimitsKept step m
+  pub added : Room step.counts step.plan_line.now step.movements.now before → Added step.counts step.plan_line.now step.movements.now before m row
+
+-- what a pass over all limits promises, by the row before the step, and the row that is lent, before and after the pass
+pub record RowGot (step : Step) (previous before : List ℕ) (result : Bool) (row : List ℕ) : Type 0 where
+  pub kept : result ≡ true → LimitsKept step
+  pub made : result ≡ true → Fits step.counts step.plan_line.now step.movements.now previous before
+      → row ≡ next_row step.counts step.plan_line.now step.movements.now previous ++ drop (2 * step.counts.links) before
+  pub alone : RowAlone step.counts before row

@@ -10,10 +10,7 @@ module _ {counts : Counts} {line : List ℕ} {movements : List Movement} {previo
   unfolding next_entered next_left
   next-base =
       record {
-        few = fits.few;
-        line-size = fits.line-size;
-        previous-size = fits.previous-size;
-        row-size = fits.row-size;
+        asked = record { few = fits.few; line-size = fits.line-size; previous-size = fits.previous-size; row-size = fits.row-size };
         entered-fits = λ i l. omega (arith, fits.entered-fits i l);
         left-fits = λ i l. omega (arith, fits.left-fits i l);
       }

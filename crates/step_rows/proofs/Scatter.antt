@@ -1,11 +1,11 @@
 -- One movement more is added to a row: what it must find, and what it leaves.
-use Rattle.base_laws.proofs.Kit.{◌≡◌, refl, ap, ◌∙◌, ◌⊎◌, inl, inr, ⊎_elim, Bool, true, false, List, ℕ, suc, ◌+◌, ◌*◌, ◌-◌, ◌≤◌, ◌<◌, add-zero, arith, eqb-true, eqb-false, eq-eqb, ne_eqb, eqb, length, get_or, set, length-set, get_or-set_same, get_or-set_other}
+use Rattle.base_laws.proofs.Kit.{◌≡◌, refl, ap, ◌∙◌, ◌⊎◌, inl, inr, ⊎_elim, Bool, true, false, List, ℕ, suc, ◌+◌, ◌*◌, ◌-◌, ◌≤◌, ◌<◌, add-zero, arith, mod-eq_of_lt, eqb-true, eqb-false, eq-eqb, ne_eqb, eqb, length, get_or, length-set, get_or-set_same, get_or-set_other}
 use Rattle.network_tables.specs.declared.Counts.{Counts}
 use Rattle.base_laws.specs.Sum.{sum, only}
 use Rattle.base_laws.proofs.Sums.{sum_more}
-use Rattle.step_rows.specs.Rows.{moved_by, Added, Room}
+use Rattle.step_rows.specs.Rows.{moved_by, with_movement, add_at, Added, Room}
 use Rattle.step_rows.proofs.Sums.{sum-none, sum-next}
-use Rattle.network_tables.specs.Fields.{link_in, row_size, moved_in}
+use Rattle.network_tables.specs.Fields.{movement_at, link_in, row_size, moved_in}
 use Rattle.network_tables.specs.declared.Movement.{Movement}
 
 same_or_not : (a b : ℕ) → (a ≡ b) ⊎ (a ≡ b → ⊥)
@@ -44,10 +44,18 @@ module _ (counts : Counts) (line : List ℕ) (movements : List Movement) (side i
   unfolding part
   moved_up h e = omega (arith, moved-yes e, sum_more part (j + 1) counts.movements (omega arith))
 
--- t and f are the links, from 0, that movement j enters and leaves
+-- movement j, which enters link t and leaves link f, from 0
 module _ {counts : Counts} {line : List ℕ} {movements : List Movement} {row₀ : List ℕ} {j : ℕ} {row : List ℕ} (room : Room counts line movements row₀) (less : j < counts.movements)
-    (was : Added counts line movements row₀ j row) {t f volume : ℕ} (to : t ≡ link_in movements 1 j - 1) (from : f ≡ link_in movements 0 j - 1)
-    (is : volume ≡ moved_in counts line j) where
+    (was : Added counts line movements row₀ j row) {volume : ℕ} (is : volume ≡ moved_in counts line j) where
+  abbrev t : ℕ
+  t = link_in movements 1 j - 1
+
+  abbrev f : ℕ
+  f = link_in movements 0 j - 1
+
+  abbrev r₁ : List ℕ
+  r₁ = add_at row (2 * t) volume
+
   to-within : t < counts.links
   to-within = omega (arith, room.named.ends j less)
 
@@ -61,7 +69,7 @@ module _ {counts : Counts} {line : List ℕ} {movements : List Movement} {row₀
   leaves = omega (arith, room.named.ends j less)
 
   -- there is room for it
-  pub room-to : (2 * t < length row) × (get_or row (2 * t) 0 + volume < 4294967296)
+  room-to : (2 * t < length row) × (get_or row (2 * t) 0 + volume < 4294967296)
   room-to = (
     omega (arith, to-within, was.size, room.few.links),
     omega (arith, was.entered t to-within, room.entered-fits t to-within, moved_up counts line movements 1 t j less enters),
@@ -73,49 +81,45 @@ module _ {counts : Counts} {line : List ℕ} {movements : List Movement} {row₀
     omega (arith, was.left f from-within, room.left-fits f from-within, moved_up counts line movements 0 f j less leaves),
   )
 
-  module _ {r₁ : List ℕ} (one : r₁ ≡ set row (2 * t) (get_or row (2 * t) 0 + volume)) where
-    first : (k : ℕ) → (k ≡ 2 * t → ⊥) → get_or r₁ k 0 ≡ get_or row k 0
-    first k h = ap (λ r. get_or r k 0) one ∙ get_or-set_other row (2 * t) k _ 0 h
+  -- also for the second store, which meets another number than the first
+  first : (k : ℕ) → (k ≡ 2 * t → ⊥) → get_or r₁ k 0 ≡ get_or row k 0
+  first k h = get_or-set_other row (2 * t) k _ 0 h
 
-    -- and for the second store, which meets another cell than the first
-    pub room-second : (2 * f + 1 < length r₁) × (get_or r₁ (2 * f + 1) 0 + volume < 4294967296)
-    room-second = (
-      rw one (rw length-set room-from.0),
-      omega (arith, first (2 * f + 1) (λ h. omega arith), room-from.1),
-    )
+  hit-to : get_or r₁ (2 * t) 0 ≡ get_or row (2 * t) 0 + volume
+  hit-to = get_or-set_same row (2 * t) _ 0 room-to.0 ∙ mod-eq_of_lt room-to.1
 
-    module _ {r₂ : List ℕ} (two : r₂ ≡ set r₁ (2 * f + 1) (get_or r₁ (2 * f + 1) 0 + volume)) where
-      second : (k : ℕ) → (k ≡ 2 * f + 1 → ⊥) → get_or r₂ k 0 ≡ get_or r₁ k 0
-      second k h = ap (λ r. get_or r k 0) two ∙ get_or-set_other r₁ (2 * f + 1) k _ 0 h
+  untouched : get_or r₁ (2 * f + 1) 0 ≡ get_or row (2 * f + 1) 0
+  untouched = first (2 * f + 1) (λ h. omega arith)
 
-      hit-to : get_or r₁ (2 * t) 0 ≡ get_or row (2 * t) 0 + volume
-      hit-to = ap (λ r. get_or r (2 * t) 0) one ∙ get_or-set_same row (2 * t) _ 0 room-to.0
+  module _ {r₂ : List ℕ} (two : r₂ ≡ with_movement (movement_at movements j) volume row) where
+    second : (k : ℕ) → (k ≡ 2 * f + 1 → ⊥) → get_or r₂ k 0 ≡ get_or r₁ k 0
+    second k h = ap (λ r. get_or r k 0) two ∙ get_or-set_other r₁ (2 * f + 1) k _ 0 h
 
-      hit-from : get_or r₂ (2 * f + 1) 0 ≡ get_or r₁ (2 * f + 1) 0 + volume
-      hit-from = ap (λ r. get_or r (2 * f + 1) 0) two ∙ get_or-set_same r₁ (2 * f + 1) _ 0 room-second.0
+    hit-from : get_or r₂ (2 * f + 1) 0 ≡ get_or r₁ (2 * f + 1) 0 + volume
+    hit-from = ap (λ r. get_or r (2 * f + 1) 0) two ∙ get_or-set_same r₁ (2 * f + 1) _ 0 (rw length-set room-from.0) ∙ mod-eq_of_lt (omega (arith, untouched, room-from.1))
 
-      added-entered : (i : ℕ) → i < counts.links → get_or r₂ (2 * i) 0 ≡ get_or row₀ (2 * i) 0 + moved_by counts line movements 1 (j + 1) i
-      added-entered i l =
-          ⊎_elim
-          (λ (e : i ≡ t). rw e (omega (arith, second (2 * t) (λ h. omega arith), hit-to, was.entered t to-within, moved-yes counts line movements 1 t j enters)))
-          (λ (e : i ≡ t → ⊥). omega (arith, second (2 * i) (λ h. omega arith), first (2 * i) (λ h. e (omega arith)), was.entered i l, moved-no counts line movements 1 i j (λ h. e (omega (arith, enters)))))
-          (same_or_not i t)
+    added-entered : (i : ℕ) → i < counts.links → get_or r₂ (2 * i) 0 ≡ get_or row₀ (2 * i) 0 + moved_by counts line movements 1 (j + 1) i
+    added-entered i l =
+        ⊎_elim
+        (λ (e : i ≡ t). rw e (omega (arith, second (2 * t) (λ h. omega arith), hit-to, was.entered t to-within, moved-yes counts line movements 1 t j enters)))
+        (λ (e : i ≡ t → ⊥). omega (arith, second (2 * i) (λ h. omega arith), first (2 * i) (λ h. e (omega arith)), was.entered i l, moved-no counts line movements 1 i j (λ h. e (omega (arith, enters)))))
+        (same_or_not i t)
 
-      added-left : (i : ℕ) → i < counts.links → get_or r₂ (2 * i + 1) 0 ≡ get_or row₀ (2 * i + 1) 0 + moved_by counts line movements 0 (j + 1) i
-      added-left i l =
-          ⊎_elim
-          (λ (e : i ≡ f). rw e (omega (arith, hit-from, first (2 * f + 1) (λ h. omega arith), was.left f from-within, moved-yes counts line movements 0 f j leaves)))
-          (λ (e : i ≡ f → ⊥). omega (arith, second (2 * i + 1) (λ h. e (omega arith)), first (2 * i + 1) (λ h. omega arith), was.left i l, moved-no counts line movements 0 i j (λ h. e (omega (arith, leaves)))))
-          (same_or_not i f)
+    added-left : (i : ℕ) → i < counts.links → get_or r₂ (2 * i + 1) 0 ≡ get_or row₀ (2 * i + 1) 0 + moved_by counts line movements 0 (j + 1) i
+    added-left i l =
+        ⊎_elim
+        (λ (e : i ≡ f). rw e (omega (arith, hit-from, first (2 * f + 1) (λ h. omega arith), was.left f from-within, moved-yes counts line movements 0 f j leaves)))
+        (λ (e : i ≡ f → ⊥). omega (arith, second (2 * i + 1) (λ h. e (omega arith)), first (2 * i + 1) (λ h. omega arith), was.left i l, moved-no counts line movements 0 i j (λ h. e (omega (arith, leaves)))))
+        (same_or_not i f)
 
-      added-rest : (k : ℕ) → 2 * counts.links ≤ k → get_or r₂ k 0 ≡ get_or row₀ k 0
-      added-rest k l = second k (λ h. omega (arith, from-within)) ∙ first k (λ h. omega (arith, to-within)) ∙ was.rest k l
+    added-rest : (k : ℕ) → 2 * counts.links ≤ k → get_or r₂ k 0 ≡ get_or row₀ k 0
+    added-rest k l = second k (λ h. omega (arith, from-within)) ∙ first k (λ h. omega (arith, to-within)) ∙ was.rest k l
 
-      pub added-turn : Added counts line movements row₀ (j + 1) r₂
-      added-turn =
-          record {
-            entered = added-entered;
-            left = added-left;
-            rest = added-rest;
-            size = ap length two ∙ length-set r₁ _ _ ∙ ap length one ∙ length-set row _ _ ∙ was.size;
-          }
+    pub added-turn : Added counts line movements row₀ (j + 1) r₂
+    added-turn =
+        record {
+          entered = added-entered;
+          left = added-left;
+          rest = added-rest;
+          size = ap length two ∙ length-set r₁ _ _ ∙ length-set row _ _ ∙ was.size;
+        }

@@ -1,6 +1,6 @@
 -- The row after a step, from the row before it and the numbers of the step's `P` line, as the program's tables hold them. Links, movements and signals
 -- are counted from 0 here; a movement names its links from 1.
-use Rattle.std.specs.Prelude.{◌≡◌, List, [], ◌∷◌, ◌++◌, ℕ, zero, suc, ◌+◌, ◌*◌, ◌≤◌, ◌<◌, eqb, length, get_or}
+use Rattle.std.specs.Prelude.{◌≡◌, List, [], ◌∷◌, ◌++◌, ℕ, zero, suc, ◌+◌, ◌*◌, ◌-◌, ◌%◌, ◌≤◌, ◌<◌, eqb, length, get_or, set, drop}
 use Rattle.text_reader.specs.Lines.{Line}
 use Rattle.base_laws.specs.Sum.{sum, only}
 use Rattle.model.specs.Network.{link_count}
@@ -39,6 +39,21 @@ unfoldable pub next_row : Counts → List ℕ → List Movement → List ℕ →
 next_row counts line movements previous =
     pairs (next_entered counts line movements previous) (next_left counts line movements previous) counts.links
 
+-- what 32 bits keep of a sum: the sum, where it fits
+abbrev pub wrapped : ℕ → ℕ
+wrapped n = n % 4294967296
+
+-- a row that is begun with link i, one to a number of which a volume is added, and one to which a movement is added
+abbrev pub with_link : Counts → List ℕ → List ℕ → ℕ → List ℕ → List ℕ
+with_link counts line previous i row =
+    set (set row (2 * i) (wrapped (base_entered counts line previous i))) (2 * i + 1) (wrapped (base_left counts line previous i))
+
+abbrev pub add_at : List ℕ → ℕ → ℕ → List ℕ
+add_at row at volume = set row at (wrapped (get_or row at 0 + volume))
+
+abbrev pub with_movement : Movement → ℕ → List ℕ → List ℕ
+with_movement movement volume row = add_at (add_at row (2 * (movement.to - 1)) volume) (2 * (movement.from - 1) + 1) volume
+
 -- movement j leaves one of the links and enters one of them
 pub record Ends (counts : Counts) (movements : List Movement) (j : ℕ) : Type 0 where
   pub from_first : 1 ≤ link_in movements 0 j
@@ -61,12 +76,21 @@ pub record Fits (counts : Counts) (line : List ℕ) (movements : List Movement) 
   pub entered-fits : (i : ℕ) → i < counts.links → next_entered counts line movements previous i < 4294967296
   pub left-fits : (i : ℕ) → i < counts.links → next_left counts line movements previous i < 4294967296
 
--- a row that can be begun: before its movements
-pub record Base (counts : Counts) (line previous row : List ℕ) : Type 0 where
+-- the tables by which a row is begun
+pub record BeginAsked (counts : Counts) (line previous row : List ℕ) : Type 0 where
   pub few : Few counts
   pub line-size : length line ≡ line_size
   pub previous-size : 2 * counts.links ≤ length previous
   pub row-size : length row ≡ row_size
+
+-- nothing but the row of the links is written in a list
+pub record RowAlone (counts : Counts) (before after : List ℕ) : Type 0 where
+  pub size : length after ≡ length before
+  pub rest : drop (2 * counts.links) after ≡ drop (2 * counts.links) before
+
+-- a row that can be begun: before its movements
+pub record Base (counts : Counts) (line previous row : List ℕ) : Type 0 where
+  pub asked : BeginAsked counts line previous row
   pub entered-fits : (i : ℕ) → i < counts.links → base_entered counts line previous i < 4294967296
   pub left-fits : (i : ℕ) → i < counts.links → base_left counts line previous i < 4294967296
 

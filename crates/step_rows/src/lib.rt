@@ -3,14 +3,14 @@
 // and was not admitted.
 #![tactic(auto)]
 
-ghost use Rattle.std.specs.Prelude.{◌≡◌, ◌++◌, ◌+◌, ◌*◌, ◌-◌, ◌/◌, ◌<◌, ◌≤◌, length, get_or, set, take, drop};
+ghost use Rattle.std.specs.Prelude.{◌≡◌, ◌++◌, ◌+◌, ◌*◌, ◌-◌, ◌/◌, ◌<◌, ◌≤◌, length, take, drop};
 ghost use Rattle.model.specs.Network.{max_links};
 ghost use Rattle.std.specs.Prelude.{sum as list_sum};
 ghost use Rattle.base_laws.specs.Sum.{sum};
 ghost use Rattle.network_tables.specs.Places.{Few};
 ghost use Rattle.network_tables.specs.Fields.{line_size, link_in, admitted_in, let_out_in, entered_in, left_in};
 ghost use Rattle.step_rows.specs.Fit.{StepFit};
-ghost use Rattle.step_rows.specs.Rows.{pairs, base_entered, base_left, next_row, Base, Fits, Added, Room};
+ghost use Rattle.step_rows.specs.Rows.{pairs, base_entered, base_left, next_row, with_link, add_at, with_movement, BeginAsked, Base, Fits, Added, Room};
 ghost use Rattle.step_rows.specs.Waiting.{FirstAsked, FirstWaits, AddAsked, Offers, WaitsAsked, Waits};
 
 use model::Signal;
@@ -46,43 +46,58 @@ impl Step<'_> {
     }
 }
 
+// Begins a row with link i: what has entered and left it before the step, with what the line admits on it and lets out from it. The sums wrap, here and
+// below: a pass forms the row while it tests the limits by which they fit.
+pub fn begin_link(previous: &[u32], line: &[u32], counts: Counts, i: usize, row: &mut [u32])
+    requires { BeginAsked counts line.now previous.now row.old × (i < counts.links) }
+    ensures { row.new ≡ with_link counts line.now previous.now i row.old }
+{
+    row[2 * i] = entered(previous, i).wrapping_add(admitted(line, counts, i));
+    row[2 * i + 1] = left(previous, i).wrapping_add(let_out(line, counts, i));
+}
+
 // Adds a volume to a number of the row. Most volumes are 0, and then the row is not touched.
 fn add_at(row: &mut [u32], at: usize, volume: u32)
-    requires { (at < length row.old) × (get_or row.old at 0 + volume < 4294967296) }
-    ensures { row.new ≡ set row.old at (get_or row.old at 0 + volume) }
+    requires { at < length row.old }
+    ensures { row.new ≡ add_at row.old at volume }
 {
     if volume != 0 {
-        row[at] += volume;
+        row[at] = row[at].wrapping_add(volume);
     }
 }
 
-// Adds each movement of the line to what has entered its to link and to what has left its from link.
-fn add_movements(row: &mut [u32], line: &[u32], movements: &[Movement], counts: Counts)
+// Adds the volume of a movement to what has entered its to link and to what has left its from link.
+pub fn add_movement(movement: &Movement, volume: u32, row: &mut [u32])
+    requires from { (1 ≤ movement.now.from) × (2 * movement.now.from ≤ length row.old) }
+    requires to { (1 ≤ movement.now.to) × (2 * movement.now.to ≤ length row.old) }
+    ensures { row.new ≡ with_movement movement.now volume row.old }
+{
+    add_at(row, 2 * (movement.to as usize - 1), volume);
+    add_at(row, 2 * (movement.from as usize - 1) + 1, volume);
+}
+
+// Adds each movement of the line.
+fn add_movements(line: &[u32], movements: &[Movement], counts: Counts, row: &mut [u32])
     requires { Room counts line.now movements.now row.old }
     ensures { Added counts line.now movements.now row.old counts.movements row.new }
 {
     for (j, movement) in movements.iter().enumerate() {
-        let volume = moved(line, counts, j);
-        let to = 2 * (movement.to as usize - 1);
-        let from = 2 * (movement.from as usize - 1) + 1;
-        add_at(row, to, volume);
-        add_at(row, from, volume);
+        add_movement(movement, moved(line, counts, j), row);
     }
 }
 
-// The row before the step with what the line admits and lets out. By index: it goes over both rows and the line together.
+// The row before the step with what the line admits and lets out.
 fn base_row(previous: &[u32], line: &[u32], counts: Counts, row: &mut [u32])
     requires { Base counts line.now previous.now row.old }
     ensures { row.new ≡ pairs (base_entered counts line.now previous.now) (base_left counts line.now previous.now) counts.links ++ drop (2 * counts.links) row.old }
 {
     for i in 0..counts.links {
-        row[2 * i] = entered(previous, i) + admitted(line, counts, i);
-        row[2 * i + 1] = left(previous, i) + let_out(line, counts, i);
+        begin_link(previous, line, counts, i, row);
     }
 }
 
-// The row after a step, in the front of a lent row: one pass over the links, one over the movements. Only for a line that has passed rules 15 and 25 to 27, whose
-// volumes are small enough for the sums to fit.
+// The row after a step, in the front of a lent row, for the search of a broken rule. Only for a line that has passed rules 15 and 25 to 27, whose volumes are small
+// enough for the sums to fit.
 pub fn next_row(
     previous: &[u32],
     line: &[u32],
@@ -94,7 +109,7 @@ pub fn next_row(
     ensures { row.new ≡ next_row counts line.now movements.now previous.now ++ drop (2 * counts.links) row.old }
 {
     base_row(previous, line, counts, row);
-    add_movements(row, line, movements, counts);
+    add_movements(line, movements, counts, row);
 }
 
 // Writes a row into the ledger from index `at` on, through the part of the lent ledger that begins in its middle, as the paper asks; all else

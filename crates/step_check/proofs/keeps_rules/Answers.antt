@@ -4,7 +4,13 @@ use Rattle.step_check.proofs.Rules.{rows-made}
 use Rattle.step_check.proofs.keeps_rules.Goals as goal
 
 pub invariant_of-rows : goal.invariant_of-rows
-invariant_of-rows c = record { rows = rw c.next_row.ensures (rows-made _ _ _ (c.requires.fits (c.keeps_limits.ensures (search rules)))) }
+invariant_of-rows c =
+    let got = c.row_within_limits.ensures in
+    let fits = c.requires.asked.fits (got.kept (search rules)) in
+    record { rows = rw (got.made (search rules) fits) (rows-made _ _ _ fits) }
 
 pub returns : goal.returns
-returns c = pass-ends c.next_row.ensures c.next_row.auto.row (c.keeps_signal_rules.ensures (search rules)) (c.keeps_limits.ensures (search rules)) c.keeps_sums.ensures
+returns c =
+    let got = c.row_within_limits.ensures in
+    let kept = got.kept (search rules) in
+    pass-ends (got.made (search rules) (c.requires.asked.fits kept)) got.alone (c.keeps_signal_rules.ensures (search rules)) kept c.keeps_sums.ensures
