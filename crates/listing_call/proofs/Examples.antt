@@ -7,10 +7,10 @@ use Rattle.model.proofs.Opened.{opened}
 use Rattle.model.proofs.Texts.{bytes, the_network, the_plan}
 use Rattle.std.specs.Prelude.{Ok, Err}
 use Rattle.listing_lines.specs.Entry.{split_once, entries_of, entries}
-use Rattle.listing_call.specs.Listing.{same, step_of, has_variable, valid_value, volume, is_volume, fits, sets, millionths_of, set_before, value_before, value, formed_by, fits_by, entry_checks_by, listing_checks, mask_of, volume_of, plan_numbers, plan_text, write_checks}
+use Rattle.listing_call.specs.Listing.{same, step_of, has_variable, valid_value, volume, is_volume, fits, sets, millionths_of, set_before, value_before, value, formed_by, fits_by, entry_checks_by, listing_checks, mask_of, volume_of, plan_line_numbers, plan_text, write_checks}
 
 unfoldable listing-opened : Unit {0}
-unfolding opened split_once entries_of entries same step_of has_variable valid_value volume is_volume fits sets millionths_of set_before value_before value formed_by fits_by entry_checks_by listing_checks mask_of volume_of plan_numbers plan_text write_checks
+unfolding opened split_once entries_of entries same step_of has_variable valid_value volume is_volume fits sets millionths_of set_before value_before value formed_by fits_by entry_checks_by listing_checks mask_of volume_of plan_line_numbers plan_text write_checks
 listing-opened = tt
 
 -- what is written, and the verdict with a buffer of so many bytes

@@ -15,7 +15,7 @@ use Rattle.listing_lines.specs.Entry.{Entry}
 use Rattle.std.specs.Prelude.{Some, None}
 use Rattle.std.proofs.lemmas.Bool.Decides.{nat_tests}
 use Rattle.listing_lines.specs.declared.Variable.TheVariants.{Shown, Admitted, LetOut, Moved}
-use Rattle.listing_call.specs.Listing.{sets, millionths_of, step_of, is_volume, volume, fits, one, line_at, fits_by, entry_checks_by, listing_checks, value_before, value, mask_of, volume_of, plan_numbers, plan_text}
+use Rattle.listing_call.specs.Listing.{sets, millionths_of, step_of, is_volume, volume, fits, one, listing_entry, fits_by, entry_checks_by, listing_checks, value_before, value, mask_of, volume_of, plan_line_numbers, plan_text}
 use Rattle.listing_call.specs.Tables.{has_volume}
 use Rattle.listing_call.proofs.Bits.{bits_below}
 use Rattle.base_laws.proofs.Sums.{list_length, list_at}
@@ -52,28 +52,28 @@ module _ (network : List Line) (listing : List Entry) (n : ℕ) where
   abbrev Moves : ℕ → ℕ
   Moves j = volume_of network listing n (Moved (suc j) (suc n))
 
-  numbers-mask : (r : ℕ) → r < signal_count network → get_or (plan_numbers network listing n) r 0 ≡ mask_of network listing n r
-  unfolding plan_numbers
+  numbers-mask : (r : ℕ) → r < signal_count network → get_or (plan_line_numbers network listing n) r 0 ≡ mask_of network listing n r
+  unfolding plan_line_numbers
   numbers-mask r l = in_list (signal_count network) (mask_of network listing n) _ r l
 
-  numbers-admitted : (i : ℕ) → i < link_count network → get_or (plan_numbers network listing n) (signal_count network + i) 0 ≡ Admits i
-  unfolding plan_numbers
+  numbers-admitted : (i : ℕ) → i < link_count network → get_or (plan_line_numbers network listing n) (signal_count network + i) 0 ≡ Admits i
+  unfolding plan_line_numbers
   numbers-admitted i l = past-list (signal_count network) (mask_of network listing n) _ i ∙ in_list (link_count network) Admits _ i l
 
-  numbers-let-out : (i : ℕ) → i < link_count network → get_or (plan_numbers network listing n) (signal_count network + (link_count network + i)) 0 ≡ LetsOut i
-  unfolding plan_numbers
+  numbers-let-out : (i : ℕ) → i < link_count network → get_or (plan_line_numbers network listing n) (signal_count network + (link_count network + i)) 0 ≡ LetsOut i
+  unfolding plan_line_numbers
   numbers-let-out i l =
       past-list (signal_count network) (mask_of network listing n) _ (link_count network + i) ∙ past-list (link_count network) Admits _ i ∙ in_list (link_count network) LetsOut _ i l
 
-  numbers-moved : (j : ℕ) → j < movement_count network → get_or (plan_numbers network listing n) (signal_count network + (2 * link_count network + j)) 0 ≡ Moves j
-  unfolding plan_numbers
+  numbers-moved : (j : ℕ) → j < movement_count network → get_or (plan_line_numbers network listing n) (signal_count network + (2 * link_count network + j)) 0 ≡ Moves j
+  unfolding plan_line_numbers
   numbers-moved j l =
       let e : signal_count network + (2 * link_count network + j) ≡ signal_count network + (link_count network + (link_count network + j)) = omega arith in
       rw e (past-list (signal_count network) (mask_of network listing n) _ (link_count network + (link_count network + j))
       ∙ past-list (link_count network) Admits _ (link_count network + j) ∙ past-list (link_count network) LetsOut _ j ∙ list_at (movement_count network) Moves j l)
 
-  numbers-length : length (plan_numbers network listing n) ≡ signal_count network + (2 * link_count network + movement_count network)
-  unfolding plan_numbers
+  numbers-length : length (plan_line_numbers network listing n) ≡ signal_count network + (2 * link_count network + movement_count network)
+  unfolding plan_line_numbers
   numbers-length =
       let a = mask_of network listing n in
       omega (
@@ -103,7 +103,7 @@ line-fits seconds v n None h t e f = cc
 
 module _ (network : List Line) (listing : List Entry) where
   abbrev Fit : Type 0
-  Fit = (i : ℕ) → i < length listing → fits_by (step_length network) (line_at listing i) ≡ true
+  Fit = (i : ℕ) → i < length listing → fits_by (step_length network) (listing_entry listing i) ≡ true
 
   pub listing-fits : Hold (listing_checks network listing) → Fit
   unfolding listing_checks entry_checks_by Hold
@@ -112,11 +112,11 @@ module _ (network : List Line) (listing : List Entry) where
   value-fits : Fit → (v : Variable) (n : ℕ) → has_volume v ≡ true → step_of v ≡ suc n → (i : ℕ) → i ≤ length listing → volume (value_before listing i v) (step_length network n) ≤ largest
   unfolding value_before
   value-fits f v n l s zero h = omega (arith, volume-none (step_length network n))
-  value-fits f v n l s (suc i) h = go (sets v (line_at listing i)) refl (value-fits f v n l s i (omega arith))
+  value-fits f v n l s (suc i) h = go (sets v (listing_entry listing i)) refl (value-fits f v n l s i (omega arith))
     where
-      go : (t : Bool) → sets v (line_at listing i) ≡ t → volume (value_before listing i v) (step_length network n) ≤ largest
-          → volume (cond t (millionths_of (line_at listing i)) (value_before listing i v)) (step_length network n) ≤ largest
-      go true e ih = line-fits (step_length network) v n (line_at listing i) l s e (f i (omega arith))
+      go : (t : Bool) → sets v (listing_entry listing i) ≡ t → volume (value_before listing i v) (step_length network n) ≤ largest
+          → volume (cond t (millionths_of (listing_entry listing i)) (value_before listing i v)) (step_length network n) ≤ largest
+      go true e ih = line-fits (step_length network) v n (listing_entry listing i) l s e (f i (omega arith))
       go false e ih = ih
 
   pub mask-small : (n r : ℕ) → mask_of network listing n r < 256
@@ -128,8 +128,8 @@ module _ (network : List Line) (listing : List Entry) where
     unfolding volume_of value
     volume-small n v h s = value-fits (listing-fits fitting) v n h s (length listing) (omega arith)
 
-    pub numbers-small : (n : ℕ) → Small (plan_numbers network listing n)
-    unfolding plan_numbers has_volume step_of
+    pub numbers-small : (n : ℕ) → Small (plan_line_numbers network listing n)
+    unfolding plan_line_numbers has_volume step_of
     numbers-small n =
         let a = list (signal_count network) (mask_of network listing n) in
         let b = list (link_count network) (Admits network listing n) in
@@ -141,13 +141,13 @@ module _ (network : List Line) (listing : List Entry) where
         (small-list (movement_count network) (Moves network listing n) (λ j h. volume-small n (Moved (suc j) (suc n)) refl refl))))
 
     -- the lines of the written text are K records `P` with the listing's numbers
-    plan-back : lines (plan_text network listing) ≡ record_lines letter_p (step_count network) (plan_numbers network listing)
+    plan-back : lines (plan_text network listing) ≡ record_lines letter_p (step_count network) (plan_line_numbers network listing)
     unfolding plan_text
-    plan-back = text-back letter_p (λ e. omega arith) (λ e. omega arith) (step_count network) (plan_numbers network listing) (λ n h. numbers-small n)
+    plan-back = text-back letter_p (λ e. omega arith) (λ e. omega arith) (step_count network) (plan_line_numbers network listing) (λ n h. numbers-small n)
 
-    entry-is : (n k : ℕ) → n < step_count network → entry (lines (plan_text network listing)) n k ≡ get_or (plan_numbers network listing n) k 0
+    entry-is : (n k : ℕ) → n < step_count network → entry (lines (plan_text network listing)) n k ≡ get_or (plan_line_numbers network listing n) k 0
     unfolding entry
-    entry-is n k h = ap (λ (p : List Line). number (get_or p n no_line) k) plan-back ∙ entry-back letter_p (step_count network) (plan_numbers network listing) n h k
+    entry-is n k h = ap (λ (p : List Line). number (get_or p n no_line) k) plan-back ∙ entry-back letter_p (step_count network) (plan_line_numbers network listing) n h k
 
     module _ (n : ℕ) (h : n < step_count network) where
       pub mask-back : (r : ℕ) → r < signal_count network → shown_mask network (lines (plan_text network listing)) n r ≡ mask_of network listing n r
@@ -168,7 +168,7 @@ module _ (network : List Line) (listing : List Entry) where
 
       pub form-is : is_form (lines (plan_text network listing)) n letter_p (signal_count network + (2 * link_count network + movement_count network)) ≡ true
       unfolding is_form
-      form-is = rw (plan-back, ← numbers-length network listing n) (form-back letter_p (step_count network) (plan_numbers network listing) n h)
+      form-is = rw (plan-back, ← numbers-length network listing n) (form-back letter_p (step_count network) (plan_line_numbers network listing) n h)
 
     pub count-is : length (lines (plan_text network listing)) ≡ step_count network
-    count-is = ap length plan-back ∙ lines-count letter_p (step_count network) (plan_numbers network listing)
+    count-is = ap length plan-back ∙ lines-count letter_p (step_count network) (plan_line_numbers network listing)

@@ -18,7 +18,7 @@ use Rattle.listing_lines.specs.declared.Setting.{Setting}
 use Rattle.listing_lines.specs.Entry.{Entry, entries, read_at, EntryStarts}
 use Rattle.listing_lines.proofs.Lines.{Read, entry_first, entry-within, entry-end, read-sets, read-malformed}
 use Rattle.listing_call.specs.declared.Place.{Place}
-use Rattle.listing_call.specs.Listing.{step_of, valid_value, fits, line_at, set_before, formed_by, fits_by, entry_checks_by}
+use Rattle.listing_call.specs.Listing.{step_of, valid_value, fits, listing_entry, set_before, formed_by, fits_by, entry_checks_by}
 use Rattle.listing_call.specs.Tables.{spot, Placed, has_in, mark_at, number_in, outcome, step_bits, bits, bit, Stored, TablesFit, Empty, ListingGot}
 use Rattle.listing_call.proofs.Tests.{tests}
 use Rattle.listing_call.proofs.Bits.{bits-few}
@@ -59,7 +59,7 @@ module _ (counts : Counts) (signals : List Signal) (times : List ℕ) (seen : Li
   unfolding outcome ◌and◌
   added line s p x e = grind (arith, nat_tests)
 
-  module _ (listing : List Entry) (i : ℕ) (numbers : List (List ℕ)) (kept : Stored (seconds_in times) listing i numbers seen) (s : Setting) (e : line_at listing i ≡ Some s)
+  module _ (listing : List Entry) (i : ℕ) (numbers : List (List ℕ)) (kept : Stored (seconds_in times) listing i numbers seen) (s : Setting) (e : listing_entry listing i ≡ Some s)
       (placed : has_in counts signals s.variable ≡ true → Placed s.variable) where
     formed-same : has_in counts signals s.variable and valid_value s.variable s.millionths and not (set_before listing i s.variable)
         ≡ has_in counts signals s.variable and valid_value s.variable s.millionths and eqb (mark_at seen s.variable) 0

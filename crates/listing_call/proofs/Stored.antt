@@ -12,9 +12,9 @@ use Rattle.network_tables.specs.Fields.{line_size}
 use Rattle.listing_lines.specs.declared.Variable.{Variable}
 use Rattle.listing_lines.specs.declared.Variable.TheVariants.{Shown, Admitted, LetOut, Moved}
 use Rattle.listing_lines.specs.Entry.{Entry, setting}
-use Rattle.listing_call.specs.Listing.{same, sets, millionths_of, step_of, one, volume, is_volume, line_at, set_before, value_before}
+use Rattle.listing_call.specs.Listing.{same, sets, millionths_of, step_of, one, volume, is_volume, listing_entry, set_before, value_before}
 use Rattle.listing_call.specs.declared.Place.{Place}
-use Rattle.listing_call.specs.Tables.{step_bits, step_bytes, RowsSized, bit_column, column, Placed, spot, bit_at, with_bit, mark_at, number_at, number_in, bit, has_volume, mask_before, Stored, Empty}
+use Rattle.listing_call.specs.Tables.{step_bits, step_bytes, RowsSized, bit_column, column, Placed, spot, bit_at, with_bit, mark_at, variable_number, number_in, bit, has_volume, mask_before, Stored, Empty}
 use Rattle.listing_call.proofs.Bits.{bit-set, bit-other, bits_below, sum-change}
 use Rattle.listing_call.proofs.Places.{same-is, same_self, same-or-not, step-inside, bit-inside, column-inside, bit-same, volume-same, mask-only, shown-at}
 
@@ -27,7 +27,7 @@ or-false false = refl
 pub same_not : (v w : Variable) → (v ≡ w → ⊥) → same v w ≡ false
 same_not v w n = grind (arith, same-is)
 
-module _ (listing : List Entry) (i : ℕ) (w : Variable) (m : ℕ) (e : line_at listing i ≡ Some (setting w m)) where
+module _ (listing : List Entry) (i : ℕ) (w : Variable) (m : ℕ) (e : listing_entry listing i ≡ Some (setting w m)) where
   set-now : set_before listing (i + 1) w ≡ true
   unfolding set_before sets
   set-now = rw (add-one, set_before, e, same_self w) (or_right (set_before listing i w) true refl)
@@ -50,7 +50,7 @@ pub value-unset : (listing : List Entry) (i : ℕ) (v : Variable) → set_before
 unfolding set_before value_before
 value-unset listing zero v e = refl
 value-unset listing (suc i) v e =
-    let p = or-neither (set_before listing i v) (sets v (line_at listing i)) e in
+    let p = or-neither (set_before listing i v) (sets v (listing_entry listing i)) e in
     rw p.1 (value-unset listing i v p.0)
 
 -- ---- what a line adds
@@ -85,7 +85,7 @@ mask-few : (listing : List Entry) (i n r : ℕ) → mask_before listing i n r < 
 unfolding mask_before
 mask-few listing i n r = bits_below (λ k. eqb (value_before listing i (Shown (suc r) (suc k) (suc n))) one) 8
 
-mask-same : (listing : List Entry) (i : ℕ) (w : Variable) (m : ℕ) → line_at listing i ≡ Some (setting w m) → (n r : ℕ) → ((j : ℕ) → Shown (suc r) (suc j) (suc n) ≡ w → ⊥)
+mask-same : (listing : List Entry) (i : ℕ) (w : Variable) (m : ℕ) → listing_entry listing i ≡ Some (setting w m) → (n r : ℕ) → ((j : ℕ) → Shown (suc r) (suc j) (suc n) ≡ w → ⊥)
     → mask_before listing (i + 1) n r ≡ mask_before listing i n r
 unfolding mask_before
 mask-same listing i w m e n r d =
@@ -159,7 +159,7 @@ module _ (seconds : ℕ → ℕ) (listing : List Entry) where
       no-bit : (n k : ℕ) → bit_at (get_or seen n []) k ≡ 0
       no-bit n k = zero_bit (get_or seen n []) k (a.no-marks n (k / 8))
 
-  module _ (i : ℕ) (numbers seen : List (List ℕ)) (s : Stored seconds listing i numbers seen) (w : Variable) (m : ℕ) (e : line_at listing i ≡ Some (setting w m)) (p : Placed w)
+  module _ (i : ℕ) (numbers seen : List (List ℕ)) (s : Stored seconds listing i numbers seen) (w : Variable) (m : ℕ) (e : listing_entry listing i ≡ Some (setting w m)) (p : Placed w)
       (x : ℕ) (free : mark_at seen w ≡ 0) (xq : number_in w m (seconds (step_of w - 1)) ≡ Some x) where
     -- the step of the line's variable, and the rows of that step
     abbrev here : ℕ
@@ -193,7 +193,7 @@ module _ (seconds : ℕ → ℕ) (listing : List Entry) where
     mark-row = get_or-set_same seen here _ [] (omega (arith, step-inside w p, s.seen-room.steps))
 
     -- what is changed, and that all else stays
-    added : number_at numbers' w ≡ number_at numbers w + x
+    added : variable_number numbers' w ≡ variable_number numbers w + x
     added = rw number-row (get_or-set_same row (column w) (get_or row (column w) 0 + x) 0 number-room)
 
     marked : mark_at seen' w ≡ 1
@@ -220,16 +220,16 @@ module _ (seconds : ℕ → ℕ) (listing : List Entry) where
     ]
 
     -- the number of a volume was 0
-    volume-old : has_volume w ≡ true → number_at numbers w ≡ 0
+    volume-old : has_volume w ≡ true → variable_number numbers w ≡ 0
     volume-old h = s.volumes w p h ∙ ap (λ y. volume y (seconds here)) (value-unset listing i w unset) ∙ volume-none (seconds here)
 
-    volume-now : has_volume w ≡ true → number_at numbers' w ≡ volume (value_before listing (i + 1) w) (seconds here)
+    volume-now : has_volume w ≡ true → variable_number numbers' w ≡ volume (value_before listing (i + 1) w) (seconds here)
     volume-now h =
         let y = (number-volume w m (seconds here) x h xq).0 in
-        let z : number_at numbers w + x ≡ volume m (seconds here) = omega (arith, volume-old h) in
+        let z : variable_number numbers w + x ≡ volume m (seconds here) = omega (arith, volume-old h) in
         added ∙ z ∙ ap (λ t. volume t (seconds here)) (sym (value-now listing i w m e))
 
-    volumes-more : (v : Variable) → Placed v → has_volume v ≡ true → number_at numbers' v ≡ volume (value_before listing (i + 1) v) (seconds (step_of v - 1))
+    volumes-more : (v : Variable) → Placed v → has_volume v ≡ true → variable_number numbers' v ≡ volume (value_before listing (i + 1) v) (seconds (step_of v - 1))
     volumes-more v q h = elim (same-or-not v w) [
       | inl z ↦ rw z (volume-now (ap has_volume (sym z) ∙ h))
       | inr d ↦
@@ -254,7 +254,7 @@ module _ (seconds : ℕ → ℕ) (listing : List Entry) where
         (λ t h d. ap (λ a. only (eqb a one) (2 ^ t)) (value-kept listing i w m e (Shown (suc r) (suc t) (suc n)) (λ vw. d (phase-same (suc r) t j (suc n) (vw ∙ q)))))
 
     -- the number of the mask of a signal, where the line names one of its phases
-    mask-old : (n r k : ℕ) → n < max_steps → r < max_signals → w ≡ Shown (suc r) (suc k) (suc n) → number_at numbers w ≡ mask_before listing i n r
+    mask-old : (n r k : ℕ) → n < max_steps → r < max_signals → w ≡ Shown (suc r) (suc k) (suc n) → variable_number numbers w ≡ mask_before listing i n r
     mask-old n r k l h q = let z = shown-at w n r k q in rw (z.0, z.1) (s.masks n r l h)
 
     masks-more : (n r : ℕ) → n < max_steps → r < max_signals → get_or (get_or numbers' n []) r 0 ≡ mask_before listing (i + 1) n r
@@ -288,7 +288,7 @@ module _ (seconds : ℕ → ℕ) (listing : List Entry) where
           counted = counted-more;
         }
 
-    fits : (t : Bool) → has_volume w ≡ t → number_at numbers w + x ≤ largest
+    fits : (t : Bool) → has_volume w ≡ t → variable_number numbers w + x ≤ largest
     fits true h = omega (arith, volume-old h, (number-volume w m (seconds here) x h xq).1)
     fits false h =
         let (n, r, j, l, a, d, v) = shown-parts w p h in

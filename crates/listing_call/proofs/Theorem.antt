@@ -16,7 +16,7 @@ use Rattle.base_laws.proofs.Tests.{and_left, and_right, or_left, or_right}
 use Rattle.listing_lines.specs.declared.Variable.{Variable}
 use Rattle.listing_lines.specs.declared.Variable.TheVariants.{Shown, Admitted, LetOut, Moved}
 use Rattle.listing_lines.specs.Entry.{Entry, setting}
-use Rattle.listing_call.specs.Listing.{sets, one, volume, is_volume, has_variable, valid_value, fits, step_of, line_at, set_before, value_before, value, formed_by, fits_by, entry_checks_by, listing_checks, mask_of, volume_of, plan_text}
+use Rattle.listing_call.specs.Listing.{sets, one, volume, is_volume, has_variable, valid_value, fits, step_of, listing_entry, set_before, value_before, value, formed_by, fits_by, entry_checks_by, listing_checks, mask_of, volume_of, plan_text}
 use Rattle.listing_call.specs.ReadsBack.{bit_of, planned, in_millionths, stated, ReadsBack}
 use Rattle.listing_call.specs.Tables.{bit}
 use Rattle.listing_call.proofs.Tests.{or_is, tests}
@@ -32,11 +32,11 @@ few-phases : (network : List Line) → Hold (network_checks network) → (r : �
 unfolding valid_phases within
 few-phases network valid r h = leb-true (signal network r).phases 8 (and_right _ _ ((valid-network network valid).phases r h))
 
-sets-not : (listing : List Entry) (j : ℕ) (v : Variable) → ((m : ℕ) → line_at listing j ≡ Some (setting v m) → ⊥) → sets v (line_at listing j) ≡ false
+sets-not : (listing : List Entry) (j : ℕ) (v : Variable) → ((m : ℕ) → listing_entry listing j ≡ Some (setting v m) → ⊥) → sets v (listing_entry listing j) ≡ false
 unfolding sets
-sets-not listing j v n = go (line_at listing j) refl
+sets-not listing j v n = go (listing_entry listing j) refl
   where
-    go : (e : Entry) → line_at listing j ≡ e → sets v e ≡ false
+    go : (e : Entry) → listing_entry listing j ≡ e → sets v e ≡ false
     go None q = refl
     go (Some s) q = same_not v s.variable (λ t. n s.millionths (q ∙ ap (λ u. Some (setting u s.millionths)) (sym t)))
 
@@ -48,36 +48,36 @@ text-of-lines text h = elim (dec_le 1 (length text)) [
 ]
 
 module _ (listing : List Entry) (v : Variable) where
-  unset-of : (k : ℕ) → ((i : ℕ) → i < k → (m : ℕ) → line_at listing i ≡ Some (setting v m) → ⊥) → set_before listing k v ≡ false
+  unset-of : (k : ℕ) → ((i : ℕ) → i < k → (m : ℕ) → listing_entry listing i ≡ Some (setting v m) → ⊥) → set_before listing k v ≡ false
   unfolding set_before
   unset-of zero n = refl
   unset-of (suc k) n =
       rw (unset-of k (λ i l. n i (omega arith)), sets-not listing k v (n k (omega arith)), or_is)
 
   -- what no line sets is 0
-  unset-value : ((i : ℕ) → i < length listing → (m : ℕ) → line_at listing i ≡ Some (setting v m) → ⊥) → value listing v ≡ 0
+  unset-value : ((i : ℕ) → i < length listing → (m : ℕ) → listing_entry listing i ≡ Some (setting v m) → ⊥) → value listing v ≡ 0
   unfolding value
   unset-value n = value-unset listing (length listing) v (unset-of (length listing) n)
 
 module _ (network : List Line) (listing : List Entry) (hold : Hold (listing_checks network listing)) where
-  formed : (i : ℕ) → i < length listing → (v : Variable) (m : ℕ) → line_at listing i ≡ Some (setting v m)
+  formed : (i : ℕ) → i < length listing → (v : Variable) (m : ℕ) → listing_entry listing i ≡ Some (setting v m)
       → (has_variable network v ≡ true) × (valid_value v m ≡ true) × (set_before listing i v ≡ false)
   unfolding listing_checks entry_checks_by Hold formed_by
   formed i l v m e =
       let f : has_variable network v and valid_value v m and not (set_before listing i v) ≡ true = rw e at (hold i l).0 in
       grind (arith, tests)
 
-  module _ (i : ℕ) (v : Variable) (m : ℕ) (e : line_at listing i ≡ Some (setting v m)) where
+  module _ (i : ℕ) (v : Variable) (m : ℕ) (e : listing_entry listing i ≡ Some (setting v m)) where
     set-of : (k : ℕ) → i < k → set_before listing k v ≡ true
     unfolding set_before sets
     set-of zero l = absurd (omega arith)
     set-of (suc k) l = go (eq-or-lt_of_le l) (set-of k)
       where
-        go : (suc i ≡ suc k) ⊎ (suc i < suc k) → (i < k → set_before listing k v ≡ true) → set_before listing k v or sets v (line_at listing k) ≡ true
+        go : (suc i ≡ suc k) ⊎ (suc i < suc k) → (i < k → set_before listing k v ≡ true) → set_before listing k v or sets v (listing_entry listing k) ≡ true
         go (inl q) ih = let z : k ≡ i = omega arith in rw (z, e, same_self v) (or_right (set_before listing i v) true refl)
-        go (inr q) ih = or_left (set_before listing k v) (sets v (line_at listing k)) (ih (omega arith))
+        go (inr q) ih = or_left (set_before listing k v) (sets v (listing_entry listing k)) (ih (omega arith))
 
-    value_stays : (k : ℕ) → sets v (line_at listing k) ≡ false → value_before listing k v ≡ m → value_before listing (suc k) v ≡ m
+    value_stays : (k : ℕ) → sets v (listing_entry listing k) ≡ false → value_before listing k v ≡ m → value_before listing (suc k) v ≡ m
     unfolding value_before
     value_stays k s h = rw s h
 
@@ -91,7 +91,7 @@ module _ (network : List Line) (listing : List Entry) (hold : Hold (listing_chec
         go (inr q) ih = value_stays k (sets-not listing k v (λ x f. let g = (formed k (omega arith) v x f).2 in let h = set-of k (omega arith) in cc)) (ih (omega arith) (omega arith))
 
   -- what a line names has its value
-  named_value : (i : ℕ) → i < length listing → (v : Variable) (m : ℕ) → line_at listing i ≡ Some (setting v m) → value listing v ≡ m
+  named_value : (i : ℕ) → i < length listing → (v : Variable) (m : ℕ) → listing_entry listing i ≡ Some (setting v m) → value listing v ≡ m
   unfolding value
   named_value i l v m e = value_of i v m e (length listing) l (omega arith)
 
@@ -148,7 +148,7 @@ module _ (network : List Line) (listing : List Entry) (hold : Hold (listing_chec
       mask_end : (n r k : ℕ) → 8 ≤ k → bit_of (mask_of network listing n r) k ≡ 0
       mask_end n r k l = bit_past (λ t. eqb (value listing (Shown (suc r) (suc t) (suc n))) one) 8 k l
 
-  line-fits : (i : ℕ) → i < length listing → (v : Variable) (m : ℕ) → line_at listing i ≡ Some (setting v m) → fits v m (step_length network (step_of v - 1)) ≡ true
+  line-fits : (i : ℕ) → i < length listing → (v : Variable) (m : ℕ) → listing_entry listing i ≡ Some (setting v m) → fits v m (step_length network (step_of v - 1)) ≡ true
   unfolding fits_by
   line-fits i l v m e = rw e at (listing-fits network listing hold i l)
 

@@ -18,7 +18,7 @@ use Rattle.listing_lines.specs.declared.Variable.TheVariants.{Admitted, LetOut, 
 use Rattle.listing_lines.specs.Entry.{Entry}
 use Rattle.std.proofs.lemmas.Bool.Decides.{nat_tests}
 use Rattle.listing_call.proofs.Tests.{tests}
-use Rattle.listing_call.specs.Listing.{step_of, volume, has_variable, line_at, value_before, value, formed_by, fits_by, entry_checks_by, listing_checks, mask_of, volume_of, plan_numbers, plan_text}
+use Rattle.listing_call.specs.Listing.{step_of, volume, has_variable, listing_entry, value_before, value, formed_by, fits_by, entry_checks_by, listing_checks, mask_of, volume_of, plan_line_numbers, plan_text}
 use Rattle.step_arrivals.specs.Arrivals.{seconds_in}
 use Rattle.step_arrivals.proofs.Boundaries.{seconds-is}
 use Rattle.listing_call.specs.Tables.{column, has_in, Placed, has_volume, mask_before, Stored}
@@ -39,7 +39,7 @@ checks-same : (has has' : Variable → Bool) (sec sec' : ℕ → ℕ) (listing :
     → verdict (each (length listing) (entry_checks_by has sec listing)) ≡ verdict (each (length listing) (entry_checks_by has' sec' listing))
 unfolding verdict entry_checks_by
 checks-same has has' sec sec' listing h s =
-    first-same _ _ (length listing) 0 (λ k _ _. entry-same has has' sec sec' listing k (line_at listing k) h s)
+    first-same _ _ (length listing) 0 (λ k _ _. entry-same has has' sec sec' listing k (listing_entry listing k) h s)
 
 -- ---- the tables of a network, with the times from the plan's start on
 module _ (network : List Line) (counts : Counts) (signals : List Signal) (timeline times : List ℕ) (c : CountsHold network counts) (p : SignalTable network signals) (t : TimeTable network timeline)
@@ -99,8 +99,8 @@ module _ (network : List Line) (counts : Counts) (signals : List Signal) (timeli
         volume-here (Moved (suc j) (suc n)) _ (omega arith, omega (arith, c.few.steps), omega arith, omega (arith, c.few.movements)) refl refl
         (omega (arith, column-moved counts (signal_count network + (link_count network + (link_count network + j))) (omega (arith, c.signals)) (omega (arith, c.signals, c.links)) (omega (arith, c.signals, c.links)), c.signals, c.links))
 
-    numbers-same : plan_row row counts ≡ plan_numbers network listing n
-    unfolding plan_row plan_numbers
+    numbers-same : plan_row row counts ≡ plan_line_numbers network listing n
+    unfolding plan_row plan_line_numbers
     numbers-same =
         let f : ℕ → ℕ = λ k. get_or row (column_in counts k) 0 in
         let w : plan_width counts ≡ signal_count network + (link_count network + (link_count network + movement_count network)) = omega (arith, c.signals, c.links, c.movements) in
@@ -117,4 +117,4 @@ module _ (network : List Line) (counts : Counts) (signals : List Signal) (timeli
   unfolding plan_lines plan_text
   text_same listing numbers seen st =
       ap (λ (x : ℕ). record_texts letter_p x (λ n. plan_row (get_or numbers n []) counts)) c.steps
-      ∙ records-same letter_p (λ n. plan_row (get_or numbers n []) counts) (plan_numbers network listing) (step_count network) (λ n h. numbers-same listing numbers seen st n h)
+      ∙ records-same letter_p (λ n. plan_row (get_or numbers n []) counts) (plan_line_numbers network listing) (step_count network) (λ n h. numbers-same listing numbers seen st n h)

@@ -77,18 +77,18 @@ millionths_of (Some setting) = setting.millionths
 millionths_of None = 0
 
 module _ (listing : List Entry) where
-  abbrev pub line_at : ℕ → Entry
-  line_at i = get_or listing i None
+  abbrev pub listing_entry : ℕ → Entry
+  listing_entry i = get_or listing i None
 
   -- one of the first i lines sets the variable
   unfoldable pub set_before : ℕ → Variable → Bool
   set_before zero v = false
-  set_before (suc i) v = set_before i v or sets v (line_at i)
+  set_before (suc i) v = set_before i v or sets v (listing_entry i)
 
   -- what the first i lines set it to, in millionths; 0 where none does
   unfoldable pub value_before : ℕ → Variable → ℕ
   value_before zero v = 0
-  value_before (suc i) v = cond (sets v (line_at i)) (millionths_of (line_at i)) (value_before i v)
+  value_before (suc i) v = cond (sets v (listing_entry i)) (millionths_of (listing_entry i)) (value_before i v)
 
   unfoldable pub value : Variable → ℕ
   value v = value_before (length listing) v
@@ -107,7 +107,7 @@ fits_by seconds None = false
 
 unfoldable pub entry_checks_by : (Variable → Bool) → (ℕ → ℕ) → List Entry → ℕ → Checks
 entry_checks_by has seconds listing i =
-    check 22 (suc i) 0 (formed_by has listing i (line_at listing i)) then check 23 (suc i) 0 (fits_by seconds (line_at listing i))
+    check 22 (suc i) 0 (formed_by has listing i (listing_entry listing i)) then check 23 (suc i) 0 (fits_by seconds (listing_entry listing i))
 
 module _ (network : List Line) (listing : List Entry) where
   unfoldable pub listing_checks : Checks
@@ -122,15 +122,15 @@ module _ (network : List Line) (listing : List Entry) where
   volume_of n v = volume (value listing v) (step_length network n)
 
   -- the numbers of the `P` line of step n
-  unfoldable pub plan_numbers : ℕ → List ℕ
-  plan_numbers n =
+  unfoldable pub plan_line_numbers : ℕ → List ℕ
+  plan_line_numbers n =
       list (signal_count network) (mask_of n)
       ++ (list (link_count network) (λ i. volume_of n (Admitted (suc i) (suc n)))
       ++ (list (link_count network) (λ i. volume_of n (LetOut (suc i) (suc n)))
       ++ list (movement_count network) (λ j. volume_of n (Moved (suc j) (suc n)))))
 
   unfoldable pub plan_text : List ℕ
-  plan_text = record_texts letter_p (step_count network) plan_numbers
+  plan_text = record_texts letter_p (step_count network) plan_line_numbers
 
   -- ---- the call, with a buffer of so many bytes
   unfoldable pub write_checks : ℕ → Checks

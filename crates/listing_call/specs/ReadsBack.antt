@@ -10,7 +10,7 @@ use Rattle.model.specs.Hold.{meant}
 use Rattle.listing_lines.specs.declared.Variable.{Variable}
 use Rattle.listing_lines.specs.declared.Variable.TheVariants.{Shown, Admitted, LetOut, Moved}
 use Rattle.listing_lines.specs.Entry.{Entry, setting}
-use Rattle.listing_call.specs.Listing.{listing_numbers, one, has_variable, line_at, plan_from_listing, buffer_after}
+use Rattle.listing_call.specs.Listing.{listing_numbers, one, has_variable, listing_entry, plan_from_listing, buffer_after}
 
 -- bit k of a number
 abbrev pub bit_of : ℕ → ℕ → ℕ
@@ -42,10 +42,10 @@ pub record ReadsBack (network : List Line) (listing : List Entry) (plan : List L
   pub count : length plan ≡ step_count network
   pub form : (n : ℕ) → n < step_count network → is_form plan n letter_p (signal_count network + (2 * link_count network + movement_count network)) ≡ true
   -- what a line of the listing names has just the number that it states: nothing is rounded
-  pub named : (i : ℕ) → i < length listing → (v : Variable) (millionths : ℕ) → line_at listing i ≡ Some (setting v millionths)
+  pub named : (i : ℕ) → i < length listing → (v : Variable) (millionths : ℕ) → listing_entry listing i ≡ Some (setting v millionths)
       → in_millionths v (planned network plan v) ≡ stated network v millionths
   -- every other variable is 0
-  pub others : (v : Variable) → has_variable network v ≡ true → ((i : ℕ) → i < length listing → (millionths : ℕ) → line_at listing i ≡ Some (setting v millionths) → ⊥) → planned network plan v ≡ 0
+  pub others : (v : Variable) → has_variable network v ≡ true → ((i : ℕ) → i < length listing → (millionths : ℕ) → listing_entry listing i ≡ Some (setting v millionths) → ⊥) → planned network plan v ≡ 0
   -- and so is every bit past the phases of a signal
   pub past : (n r k : ℕ) → n < step_count network → r < signal_count network → (signal network r).phases ≤ k → bit_of (shown_mask network plan n r) k ≡ 0
 

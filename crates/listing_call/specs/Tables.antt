@@ -76,8 +76,8 @@ place_in steps n bit number = option_map (λ step. record { step = step; bit = b
 abbrev pub spot : Variable → Place
 spot v = record { step = step_of v - 1; bit = bit_column v; number = column v }
 
-abbrev pub place_of : Counts → List Signal → Variable → Option Place
-place_of counts signals v = cond (has_in counts signals v) (Some (spot v)) None
+abbrev pub variable_place : Counts → List Signal → Variable → Option Place
+variable_place counts signals v = cond (has_in counts signals v) (Some (spot v)) None
 
 -- it lies inside the tables
 pub record Inside (counts : Counts) (place : Place) : Type 0 where
@@ -96,8 +96,8 @@ with_bit bytes k = set bytes (k / 8) (bit_or (get_or bytes (k / 8) 0) (2 ^ (k % 
 abbrev pub mark_at : List (List ℕ) → Variable → ℕ
 mark_at seen v = bit_at (get_or seen (step_of v - 1) []) (bit_column v)
 
-abbrev pub number_at : List (List ℕ) → Variable → ℕ
-number_at numbers v = get_or (get_or numbers (step_of v - 1) []) (column v) 0
+abbrev pub variable_number : List (List ℕ) → Variable → ℕ
+variable_number numbers v = get_or (get_or numbers (step_of v - 1) []) (column v) 0
 
 -- ---- numbers
 -- the bit of a phase in a mask
@@ -139,7 +139,7 @@ pub record Stored (seconds : ℕ → ℕ) (listing : List Entry) (i : ℕ) (numb
   pub seen-room : RowsSized step_bytes seen
   pub marks : (v : Variable) → Placed v → mark_at seen v ≡ bit (set_before listing i v)
   pub masks : (n r : ℕ) → n < max_steps → r < max_signals → get_or (get_or numbers n []) r 0 ≡ mask_before listing i n r
-  pub volumes : (v : Variable) → Placed v → has_volume v ≡ true → number_at numbers v ≡ volume (value_before listing i v) (seconds (step_of v - 1))
+  pub volumes : (v : Variable) → Placed v → has_volume v ≡ true → variable_number numbers v ≡ volume (value_before listing i v) (seconds (step_of v - 1))
   pub counted : sum max_steps (λ n. sum step_bits (bit_at (get_or seen n []))) ≡ i
 
 -- ---- what the functions ask and promise

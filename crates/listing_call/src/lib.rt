@@ -10,7 +10,7 @@ ghost use Rattle.step_arrivals.specs.Arrivals.{seconds_in};
 ghost use Rattle.listing_lines.specs.Entry.{entries};
 ghost use Rattle.listing_call.specs.Listing.{valid_value};
 ghost use Rattle.listing_call.specs.ReadsBack.{PlanGot};
-ghost use Rattle.listing_call.specs.Tables.{has_in, index_in, place_in, place_of, Inside, bit_at, with_bit, phase_bit, volume_in, number_in, outcome, TablesFit, step_bits, Empty, ListingGot};
+ghost use Rattle.listing_call.specs.Tables.{has_in, index_in, place_in, variable_place, Inside, bit_at, with_bit, phase_bit, volume_in, number_in, outcome, TablesFit, step_bits, Empty, ListingGot};
 ghost use Rattle.listing_call.specs.Writing.{WriteGot};
 
 use base_search::{Reason, Refusal};
@@ -73,8 +73,8 @@ impl Tables<'_> {
 
     // The place of a variable, where the network has what it names.
     #[tactic(auto, using(crate::proofs::Tests::tests), unfolding(crate::specs::Listing::step_of))]
-    fn place_of(&self, variable: Variable) -> Option<Place>
-        ensures value { result ≡ place_of self.now.counts self.now.signals.now variable }
+    fn variable_place(&self, variable: Variable) -> Option<Place>
+        ensures value { result ≡ variable_place self.now.counts self.now.signals.now variable }
         ensures inside { IfSome result (λ place. Inside self.now.counts place) }
     {
         match variable {
@@ -117,7 +117,7 @@ impl Tables<'_> {
         ensures inside { IfOk result (λ added. Inside self.now.counts added.0) }
     {
         let malformed = Reason::ListingLine.refusal(line, 0);
-        let place = self.place_of(setting.variable).ok_or(malformed)?;
+        let place = self.variable_place(setting.variable).ok_or(malformed)?;
         if !is_valid_value(setting) || is_set(&seen[place.step], place.bit) {
             return Err(malformed);
         }

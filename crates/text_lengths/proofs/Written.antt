@@ -16,7 +16,7 @@ use Rattle.model.proofs.Limits.{Counts, counts}
 use Rattle.listing_lines.specs.declared.Variable.{Variable}
 use Rattle.listing_lines.specs.declared.Variable.TheVariants.{Admitted, LetOut, Moved}
 use Rattle.listing_lines.specs.Entry.{Entry}
-use Rattle.listing_call.specs.Listing.{listing_checks, mask_of, volume_of, plan_numbers, plan_text}
+use Rattle.listing_call.specs.Listing.{listing_checks, mask_of, volume_of, plan_line_numbers, plan_text}
 use Rattle.listing_call.proofs.ReadBack.{mask-small, numbers-small}
 use Rattle.sheet_lines.specs.Sheet.{phases_of}
 use Rattle.model_sheet.specs.Cycle.{sheet_phase, phase_at, cycle_place, sheet_numbers, sheet_text}
@@ -41,8 +41,8 @@ module _ (network : List Line) (holds : Hold (network_checks network)) where
 
   -- ---- from a listing
   module _ (listing : List Entry) (fitting : Hold (listing_checks network listing)) where
-    listing-line : (n : ℕ) → length (record_text letter_p (plan_numbers network listing n)) ≤ 1266
-    unfolding plan_numbers
+    listing-line : (n : ℕ) → length (record_text letter_p (plan_line_numbers network listing n)) ≤ 1266
+    unfolding plan_line_numbers
     listing-line n =
         omega (
           arith,
@@ -86,7 +86,7 @@ module _ (network : List Line) (holds : Hold (network_checks network)) where
 
     pub listing-most : length (plan_text network listing) ≤ written_plan_most
     unfolding plan_text
-    listing-most = omega (arith, records-most letter_p (plan_numbers network listing) 1266 (step_count network) listing-line, c)
+    listing-most = omega (arith, records-most letter_p (plan_line_numbers network listing) 1266 (step_count network) listing-line, c)
 
   -- ---- for a sheet
   module _ (sheet : List Line) where
