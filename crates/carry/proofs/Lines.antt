@@ -15,7 +15,7 @@ use Rattle.model_carry.specs.Part.{signal_numbers}
 use Rattle.network_writer.specs.declared.Output.{Output}
 use Rattle.network_writer.specs.Put.{Put}
 use Rattle.network_writer.proofs.Put.{LinesTo, rows_next}
-use Rattle.carry.specs.Rows.{link_row, SignalsAsked}
+use Rattle.carry.specs.Rows.{carried_link_row, SignalsAsked}
 use Rattle.carry.proofs.Filling.{signal-front}
 
 -- the first k of them are put
@@ -30,8 +30,8 @@ signals-next {signals} {k = k} asked t h {row} is width put =
 
 -- ---- what is given for link i, with who waits there, and for movement j is its row
 module _ (links : List Link) (waiting : List ℕ) (i : ℕ) (none : Link) (h : i < length links) where
-  pub link-given : (changed : Option Link) → changed ≡ Some (record (get_or links i none) { waiting = get_or waiting i 0 }) → RowIs (λ link row. row ≡ fields.link_row link) changed (link_row links waiting i ∷ [])
-  unfolding link_row
+  pub link-given : (changed : Option Link) → changed ≡ Some (record (get_or links i none) { waiting = get_or waiting i 0 }) → RowIs (λ link row. row ≡ fields.link_row link) changed (carried_link_row links waiting i ∷ [])
+  unfolding carried_link_row
   link-given changed e = rw e (λ row is. ap (λ (r : List ℕ). r ∷ []) (is ∙ ap (λ (link : Link). fields.link_row (record link { waiting = get_or waiting i 0 })) here))
     where
       here : get_or links i none ≡ link_at links i

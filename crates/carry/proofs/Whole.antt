@@ -34,7 +34,7 @@ use Rattle.network_writer.specs.Texts.{line_texts}
 use Rattle.network_writer.proofs.Put.{puts-more}
 use Rattle.network_writer.proofs.Texts.{texts-of-list, put_first}
 use Rattle.carry.specs.declared.PassedLines.{PassedLines}
-use Rattle.carry.specs.Rows.{count_row, link_row, volumes_in, Copied, StepsPutAsked, StepsPut, Rising, SignalsAsked}
+use Rattle.carry.specs.Rows.{count_row, carried_link_row, volumes_in, Copied, StepsPutAsked, StepsPut, Rising, SignalsAsked}
 use Rattle.network_tables.specs.Fields.{signal_at as signal_in, movement_at, no_signal, movement_row}
 use Rattle.network_writer.specs.Texts.{rows_to}
 use Rattle.network_writer.proofs.Rows.{each-one}
@@ -228,8 +228,8 @@ module _ {tables : NetworkTables} {st : Standing} (a : CarryAsked tables st) {tr
     signals-same : record_texts letter_g C.signals (λ r. signal_numbers (signal_in signals r)) ≡ record_texts letter_g (signal_count net) (λ r. signal_numbers (signal_at net plan b r))
     signals-same = rw a.loaded.counted.signals (records-same letter_g _ _ (signal_count net) (λ r l. ap signal_numbers (s.signals-at r l)))
 
-    links-same : record_texts letter_q C.links (link_row tables.links.now waiting) ≡ record_texts letter_q (link_count net) (link_numbers net plan b (step_count net))
-    links-same = rw a.loaded.counted.links (records-same letter_q _ _ (link_count net) (λ i l. unfold link_row link_numbers in
+    links-same : record_texts letter_q C.links (carried_link_row tables.links.now waiting) ≡ record_texts letter_q (link_count net) (link_numbers net plan b (step_count net))
+    links-same = rw a.loaded.counted.links (records-same letter_q _ _ (link_count net) (λ i l. unfold carried_link_row link_numbers in
         rw (capacity-at a.loaded.link-table i l, travel-time-at a.loaded.link-table i l, exit-rate-at a.loaded.link-table i l, signal-of-at a.loaded.link-table i l, phase-mask-at a.loaded.link-table i l, standing-at a.loaded.link-table i l, s.waiting-at i l) refl))
 
     movements-same : record_texts letter_m C.movements (λ j. movement_row (movement_at tables.movements.now j)) ≡ record_texts letter_m (movement_count net) (movement_numbers net plan b (step_count net))
@@ -292,9 +292,9 @@ module _ {tables : NetworkTables} {st : Standing} (a : CarryAsked tables st) {tr
       let e = length-take-le C.signals signals (omega (arith, a.signals-size, few.signals)) in
       rw (e, records-same letter_g _ (λ r. signal_numbers (signal_in signals r)) C.signals (λ r l. ap signal_numbers (get_or-take C.signals signals r no_signal l))) at p
 
-  pub links-put : {old new : Output} → Put (length tables.links.now) (line_texts letter_q (rows_to (length tables.links.now) (λ i. link_row tables.links.now waiting i ∷ []))) old new
-      → Put C.links (record_texts letter_q C.links (link_row tables.links.now waiting)) old new
-  links-put p = rw (tables.sized.link-size, each-one letter_q (link_row tables.links.now waiting) C.links) at p
+  pub links-put : {old new : Output} → Put (length tables.links.now) (line_texts letter_q (rows_to (length tables.links.now) (λ i. carried_link_row tables.links.now waiting i ∷ []))) old new
+      → Put C.links (record_texts letter_q C.links (carried_link_row tables.links.now waiting)) old new
+  links-put p = rw (tables.sized.link-size, each-one letter_q (carried_link_row tables.links.now waiting) C.links) at p
 
   pub movements-put : {old new : Output}
       → Put (length tables.movements.now) (line_texts letter_m (rows_to (length tables.movements.now) (λ j. movement_row (movement_at tables.movements.now j) ∷ []))) old new
@@ -307,7 +307,7 @@ module _ {tables : NetworkTables} {st : Standing} (a : CarryAsked tables st) {tr
       (p₁ : Put 1 (record_text letter_n (count_row C b left)) o₀ o₁)
       (p₂ : Put C.trams (line_texts letter_t (all_left b trams C.trams)) o₁ o₂)
       (p₃ : Put C.signals (record_texts letter_g C.signals (λ r. signal_numbers (signal_in signals r))) o₂ o₃)
-      (p₄ : Put C.links (record_texts letter_q C.links (link_row tables.links.now waiting)) o₃ o₄)
+      (p₄ : Put C.links (record_texts letter_q C.links (carried_link_row tables.links.now waiting)) o₃ o₄)
       (p₅ : Put C.movements (record_texts letter_m C.movements (λ j. movement_row (movement_at tables.movements.now j))) o₄ o₅)
       (e : width ≡ 1 + 2 * C.links) (p₆ : Copied tables.text.now (past width) o₅ o₆)
       (p₇ : StepsPut tables st o₆ next o₇)
@@ -316,7 +316,7 @@ module _ {tables : NetworkTables} {st : Standing} (a : CarryAsked tables st) {tr
         → record_text letter_n (count_row C b left)
         ++ (line_texts letter_t (all_left b trams C.trams)
         ++ (record_texts letter_g C.signals (λ r. signal_numbers (signal_in signals r))
-        ++ (record_texts letter_q C.links (link_row tables.links.now waiting)
+        ++ (record_texts letter_q C.links (carried_link_row tables.links.now waiting)
         ++ (record_texts letter_m C.movements (λ j. movement_row (movement_at tables.movements.now j))
         ++ ((record_texts letter_h C.past (λ k. list (1 + 2 * C.links) (entry net (timeline_line net 0 + k)))
         ++ record_texts letter_h b (λ n. entry net (step_line net 0 + n) 0 ∷ joined C.links (volumes_in ledger C.links n)))

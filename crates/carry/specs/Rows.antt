@@ -24,8 +24,8 @@ count_row counts b trams =
     counts.links ∷ counts.signals ∷ counts.movements ∷ (counts.steps - b) ∷ trams ∷ (counts.past + b) ∷ []
 
 -- the `Q` line of link i, with who waits at its entry
-unfoldable pub link_row : List Link → List ℕ → ℕ → List ℕ
-link_row links waiting i = fields.link_row (record (link_at links i) { waiting = get_or waiting i 0 })
+unfoldable pub carried_link_row : List Link → List ℕ → ℕ → List ℕ
+carried_link_row links waiting i = fields.link_row (record (link_at links i) { waiting = get_or waiting i 0 })
 
 -- what entered link i in step n, and left it, by the rows of a ledger of so many links
 unfoldable pub volumes_in : List ℕ → ℕ → ℕ → ℕ → List ℕ

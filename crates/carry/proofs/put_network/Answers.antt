@@ -6,7 +6,7 @@ use Rattle.model.specs.Table.{letter_t, letter_q, letter_m}
 use Rattle.network_tables.specs.Fields.{tram_at, movement_at, movement_row}
 use Rattle.network_writer.specs.Put.{Put}
 use Rattle.network_writer.specs.Texts.{line_texts}
-use Rattle.carry.specs.Rows.{link_row}
+use Rattle.carry.specs.Rows.{carried_link_row}
 use Rattle.carry.specs.Trams.{left_of, all_left}
 use Rattle.carry.proofs.Trams.{row-left, many-left}
 use Rattle.carry.proofs.Lines.{link-given, movement-given}
@@ -26,11 +26,11 @@ trams c =
     let b = c.args.standing.now.boundary in
     trams-put c.requires.carry_asked c.requires.tram_table (c.put_rows.ensures (λ k. left_of b (tram_at trams k)) (λ k none rest h p. row-left b trams k none h rest (search rules)))
 
-links : (c : After-put_rows-2) → Put c.args.tables.now.reading.counts.links (record_texts letter_q c.args.tables.now.reading.counts.links (link_row c.args.tables.now.links.now c.args.standing.now.waiting.now)) c.put_signals.new.output c.put_rows-2.new.self
+links : (c : After-put_rows-2) → Put c.args.tables.now.reading.counts.links (record_texts letter_q c.args.tables.now.reading.counts.links (carried_link_row c.args.tables.now.links.now c.args.standing.now.waiting.now)) c.put_signals.new.output c.put_rows-2.new.self
 links c =
     let t = c.args.tables.now in
     let w = c.args.standing.now.waiting.now in
-    links-put c.requires.carry_asked c.requires.tram_table (c.put_rows-2.ensures (λ i. link_row t.links.now w i ∷ []) (λ i none changed h p. link-given t.links.now w i none h changed (search rules)))
+    links-put c.requires.carry_asked c.requires.tram_table (c.put_rows-2.ensures (λ i. carried_link_row t.links.now w i ∷ []) (λ i none changed h p. link-given t.links.now w i none h changed (search rules)))
 
 movements : (c : After-put_rows-3) → Put c.args.tables.now.reading.counts.movements (record_texts letter_m c.args.tables.now.reading.counts.movements (λ j. movement_row (movement_at c.args.tables.now.movements.now j))) c.put_rows-2.new.self c.put_rows-3.new.self
 movements c =
