@@ -19,7 +19,7 @@ use Rattle.model_text.specs.NetworkText.{NetworkNumbers, count_numbers, network_
 use Rattle.model_text.proofs.Lines.{Fits, reads-back}
 use Rattle.model_text.proofs.Formed.{formed-of-holds}
 use Rattle.model_split.specs.Numbering.{rank, picked}
-use Rattle.model_split.specs.Halves.{Half, in_field, link_number, signal_number, inside, follows, tram_numbers, signal_numbers, movement_numbers, crossing_into, border_in, border_out, link_numbers, step_numbers, half_numbers, plan_numbers, half_network, half_plan, half_network_text, half_plan_text}
+use Rattle.model_split.specs.Halves.{Half, in_field, link_number, signal_number, inside, follows, half_tram_numbers, signal_numbers, movement_numbers, crossing_into, border_in, border_out, link_numbers, step_numbers, half_numbers, half_plan_numbers, half_network, half_plan, half_network_text, half_plan_text}
 use Rattle.model_split.proofs.Numbering.{rank-le, ranked, picked-length, picked-at}
 use Rattle.model_split.proofs.Border.{Splittable, Crossing, NoCrossing, crosses-into}
 use Rattle.model_split.proofs.Trams.{signal-there}
@@ -97,15 +97,15 @@ module _ (network plan : List Line) (first : ℕ → Bool) (h : Half) (holds : H
   counts-small (suc (suc (suc zero))) = omega (arith, (counts network valid).steps)
   counts-small (suc (suc (suc (suc zero)))) =
       let few : tram_count network ≤ largest = unfold tram_count in read 0 4 in
-      omega (arith, picked-length (follows network h) (tram_numbers network h) (tram_count network), rank-le (follows network h) (tram_count network), few)
+      omega (arith, picked-length (follows network h) (half_tram_numbers network h) (tram_count network), rank-le (follows network h) (tram_count network), few)
   counts-small (suc (suc (suc (suc (suc zero))))) = omega arith
   counts-small (suc (suc (suc (suc (suc (suc k)))))) = omega arith
 
   tram-field : (k f : ℕ) → number (tram network k) f ≤ largest
   tram-field k f = let e = read (tram_line network k) f in unfold entry in e
 
-  tram-small : (k : ℕ) → k < tram_count network → Small (tram_numbers network h k)
-  unfolding tram_numbers
+  tram-small : (k : ℕ) → k < tram_count network → Small (half_tram_numbers network h k)
+  unfolding half_tram_numbers
   tram-small k l zero =
       let e = signal-there network h (formed-of-holds network holds) valid k l in
       signal-number-small (number (tram network k) 0) (omega (arith, e.1, (counts network valid).signals))
@@ -162,8 +162,8 @@ module _ (network plan : List Line) (first : ℕ → Bool) (h : Half) (holds : H
   unfolding in_field
   in-field-small x = omega arith
 
-  line-fits : (n : ℕ) → Small (plan_numbers network first plan h n)
-  unfolding plan_numbers
+  line-fits : (n : ℕ) → Small (half_plan_numbers network first plan h n)
+  unfolding half_plan_numbers
   line-fits n =
       small-append (masks network plan first h n) (admissions network plan first h n ++ (exits network plan first h n ++ moves network plan first h n))
       (small-picked (signal_count network) h.has-signal (shown_mask network plan n) (λ r u. unfold shown_mask in planned n r))
@@ -177,7 +177,7 @@ module _ (network plan : List Line) (first : ℕ → Bool) (h : Half) (holds : H
   half-fits =
       record {
         counts = counts-small;
-        trams = λ k l. unfold half_numbers in small-lists (tram_count network) (follows network h) (tram_numbers network h) tram-small k (trams-there k l);
+        trams = λ k l. unfold half_numbers in small-lists (tram_count network) (follows network h) (half_tram_numbers network h) tram-small k (trams-there k l);
         signals = λ r l. unfold half_numbers in small-lists (signal_count network) h.has-signal (signal_numbers network h) (λ r u. signal-small r) r (unfold half_numbers in l);
         links = λ i l. unfold half_numbers in small-lists (link_count network) h.has-link (link_numbers network first plan h) link-small i (unfold half_numbers in l);
         movements = λ j l. unfold half_numbers in small-lists (movement_count network) (inside network h) (movement_numbers network h) movement-small j (unfold half_numbers in l);
@@ -186,7 +186,7 @@ module _ (network plan : List Line) (first : ℕ → Bool) (h : Half) (holds : H
       }
     where
       trams-there : (k : ℕ) → k < length X.trams → k < rank (follows network h) (tram_count network)
-      trams-there k l = let e : length X.trams ≡ rank (follows network h) (tram_count network) = unfold half_numbers in picked-length (follows network h) (tram_numbers network h) (tram_count network) in omega arith
+      trams-there k l = let e : length X.trams ≡ rank (follows network h) (tram_count network) = unfold half_numbers in picked-length (follows network h) (half_tram_numbers network h) (tram_count network) in omega arith
 
       none : (m : ℕ) → m < 0 → Small (X.past-step m)
       none m l = absurd (omega arith)
@@ -197,7 +197,7 @@ module _ (network plan : List Line) (first : ℕ → Bool) (h : Half) (holds : H
 
   pub plan-back : lines (half_plan_text network first plan h) ≡ half_plan network first plan h
   unfolding half_plan_text half_plan
-  plan-back = text-back letter_p (λ e. omega arith) (λ e. omega arith) (step_count network) (plan_numbers network first plan h) (λ n l. line-fits n)
+  plan-back = text-back letter_p (λ e. omega arith) (λ e. omega arith) (step_count network) (half_plan_numbers network first plan h) (λ n l. line-fits n)
 
 -- what was read from texts
 pub texts-small : (network_text plan_text : List ℕ) → ValidNetwork (lines network_text) → ((i k : ℕ) → entry (lines network_text) i k ≤ largest) × ((n k : ℕ) → entry (plan_of network_text plan_text) n k ≤ largest)

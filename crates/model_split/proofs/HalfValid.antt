@@ -16,7 +16,7 @@ use Rattle.model.proofs.Timeline.{entered-start, left-start}
 use Rattle.model_text.proofs.Lines.{count-form, all_lines}
 use Rattle.model_text.proofs.Formed.{Formed, holds-of-valid}
 use Rattle.model_split.specs.Numbering.{rank}
-use Rattle.model_split.specs.Halves.{Half, link_number, follows, tram_numbers, signal_numbers, movement_numbers, border_rate, border_in, crossing_from, link_numbers, step_numbers}
+use Rattle.model_split.specs.Halves.{Half, link_number, follows, half_tram_numbers, signal_numbers, movement_numbers, border_rate, border_in, crossing_from, link_numbers, step_numbers}
 use Rattle.model_split.proofs.Names.{counts_of, names_of}
 use Rattle.model_split.proofs.Tests.{Found, find}
 use Rattle.model_split.proofs.Numbering.{rank_rises, rank_lt, rank-le, ranked, ranked-all, renumbered, picked-length}
@@ -75,7 +75,7 @@ module _ (network plan : List Line) (first : ℕ → Bool) (h : Half) (formed : 
   half-formed =
       record {
         count-form = count-form X;
-        tram-forms = trams-all (λ k. is_record letter_t 4 (get_or N (tram_line N k) no_line) ≡ true) (λ k l t. unfold tram_numbers in (tram-line network plan first h k l t).form);
+        tram-forms = trams-all (λ k. is_record letter_t 4 (get_or N (tram_line N k) no_line) ≡ true) (λ k l t. unfold half_tram_numbers in (tram-line network plan first h k l t).form);
         signal-forms = signals-all (λ r. is_record letter_g (6 + 2 * (signal N r).phases) (get_or N (signal_line N r) no_line) ≡ true) signal-form;
         link-forms = links-all (λ i. is_record letter_q 7 (get_or N (link_line N i) no_line) ≡ true) (λ i l t. unfold link_numbers in (link-line network plan first h i l t).form);
         movement-forms = movements-all (λ j. is_record letter_m 4 (get_or N (movement_line N j) no_line) ≡ true) (λ j l t. unfold movement_numbers in (movement-line network plan first h j l t).form);
@@ -103,21 +103,21 @@ module _ (network plan : List Line) (first : ℕ → Bool) (h : Half) (formed : 
     abbrev new_tram : Line
     new_tram = tram N (rank (follows network h) k)
 
-    tram-number : (f : ℕ) → number new_tram f ≡ get_or (tram_numbers network h k) f 0
+    tram-number : (f : ℕ) → number new_tram f ≡ get_or (half_tram_numbers network h k) f 0
     unfolding entry
     tram-number f = (tram-line network plan first h k l t).says f
 
     signal-renumbered : number new_tram 0 ≡ suc (rank h.has-signal (number (tram network k) 0 - 1))
-    signal-renumbered = tram-number 0 ∙ (unfold tram_numbers in tram-signal network h formed valid k l)
+    signal-renumbered = tram-number 0 ∙ (unfold half_tram_numbers in tram-signal network h formed valid k l)
 
     new-phase : number new_tram 1 ≡ number (tram network k) 1
-    new-phase = tram-number 1 ∙ (unfold tram_numbers in refl)
+    new-phase = tram-number 1 ∙ (unfold half_tram_numbers in refl)
 
     new-first : number new_tram 2 ≡ number (tram network k) 2
-    new-first = tram-number 2 ∙ (unfold tram_numbers in refl)
+    new-first = tram-number 2 ∙ (unfold half_tram_numbers in refl)
 
     new-last : number new_tram 3 ≡ number (tram network k) 3
-    new-last = tram-number 3 ∙ (unfold tram_numbers in refl)
+    new-last = tram-number 3 ∙ (unfold half_tram_numbers in refl)
 
     its-place : number (tram network k) 0 - 1 < R
     its-place = let e = signal-there network h formed valid k l in omega (arith, e.0, e.1)

@@ -12,7 +12,7 @@ use Rattle.text_reader.proofs.Laws.{record-past}
 use Rattle.model_text.proofs.Lines.{Says, counted, tram-says, signal-says, link-says, movement-says, step-says, trams-are}
 use Rattle.model_text.proofs.Formed.{Formed}
 use Rattle.model_split.specs.Numbering.{rank, picked}
-use Rattle.model_split.specs.Halves.{Half, in_field, follows, tram_numbers, signal_numbers, movement_numbers, border_in, border_out, link_numbers, step_numbers, half_numbers, plan_numbers, half_plan}
+use Rattle.model_split.specs.Halves.{Half, in_field, follows, half_tram_numbers, signal_numbers, movement_numbers, border_in, border_out, link_numbers, step_numbers, half_numbers, half_plan_numbers, half_plan}
 use Rattle.model_split.proofs.Names.{counts_of, names_of}
 use Rattle.model_split.proofs.Numbering.{rank_lt, picked-length, picked-at}
 use Rattle.model_split.proofs.Same.{IsHalf}
@@ -44,17 +44,17 @@ module _ (network plan : List Line) (first : ℕ → Bool) (h : Half) where
   half-steps = (counted X).step_count_lem ∙ (unfold half_numbers in refl)
 
   pub half-trams : tram_count N ≡ rank (follows network h) (tram_count network)
-  half-trams = (counted X).tram-count ∙ (unfold half_numbers in picked-length (follows network h) (tram_numbers network h) (tram_count network))
+  half-trams = (counted X).tram-count ∙ (unfold half_numbers in picked-length (follows network h) (half_tram_numbers network h) (tram_count network))
 
   pub half-past : past_count N ≡ 0
   half-past = (counted X).past-count ∙ (unfold half_numbers in refl)
 
   -- ---- each line of the half says the numbers of its old line
-  pub tram-line : (k : ℕ) → k < tram_count network → follows network h k ≡ true → Says X (tram_line N (rank (follows network h) k)) letter_t (tram_numbers network h k)
+  pub tram-line : (k : ℕ) → k < tram_count network → follows network h k ≡ true → Says X (tram_line N (rank (follows network h) k)) letter_t (half_tram_numbers network h k)
   tram-line k l t =
       let few : rank (follows network h) k < length X.trams = omega (arith, half-trams, (counted X).tram-count, rank_lt (follows network h) k (tram_count network) t l) in
       let s = tram-says X (rank (follows network h) k) few in
-      let e : get_or X.trams (rank (follows network h) k) [] ≡ tram_numbers network h k = unfold half_numbers in picked-at (follows network h) (tram_numbers network h) (tram_count network) k [] l t in
+      let e : get_or X.trams (rank (follows network h) k) [] ≡ half_tram_numbers network h k = unfold half_numbers in picked-at (follows network h) (half_tram_numbers network h) (tram_count network) k [] l t in
       rw e at s
 
   pub signal-line : (r : ℕ) → r < R → h.has-signal r ≡ true → Says X (signal_line N (new_signal r)) letter_g (signal_numbers network h r)
@@ -135,7 +135,7 @@ module _ (network plan : List Line) (first : ℕ → Bool) (h : Half) where
 
   plan-entry : (n k : ℕ) → n < K → entry P n k ≡ get_or (masks n ++ (admissions n ++ (exits n ++ moves n))) k 0
   unfolding entry half_plan
-  plan-entry n k l = entry-back letter_p K (plan_numbers network first plan h) n l k ∙ (unfold plan_numbers in refl)
+  plan-entry n k l = entry-back letter_p K (half_plan_numbers network first plan h) n l k ∙ (unfold half_plan_numbers in refl)
 
   past-masks : (n k : ℕ) → n < K → entry P n (new_signal R + k) ≡ get_or (admissions n ++ (exits n ++ moves n)) k 0
   past-masks n k l = plan-entry n (new_signal R + k) l ∙ past-picked R k h.has-signal (shown_mask network plan n) (admissions n ++ (exits n ++ moves n))
@@ -167,8 +167,8 @@ module _ (network plan : List Line) (first : ℕ → Bool) (h : Half) where
       e ∙ past-exits n (rank ins j) l ∙ picked-at ins (moved network plan n) M j 0 u t
 
   -- its form
-  plan-width : (n : ℕ) → length (plan_numbers network first plan h n) ≡ new_signal R + (2 * link L + rank ins M)
-  unfolding plan_numbers
+  plan-width : (n : ℕ) → length (half_plan_numbers network first plan h n) ≡ new_signal R + (2 * link L + rank ins M)
+  unfolding half_plan_numbers
   plan-width n =
       omega (
         arith,
@@ -183,11 +183,11 @@ module _ (network plan : List Line) (first : ℕ → Bool) (h : Half) where
 
   pub plan-form : (n : ℕ) → n < K → is_form P n letter_p (signal_count N + (2 * link_count N + movement_count N)) ≡ true
   unfolding is_form half_plan
-  plan-form n l = rw (half-signals, half-links, half-movements, ← (plan-width n)) (form-back letter_p K (plan_numbers network first plan h) n l)
+  plan-form n l = rw (half-signals, half-links, half-movements, ← (plan-width n)) (form-back letter_p K (half_plan_numbers network first plan h) n l)
 
   pub plan-length : length P ≡ K
   unfolding half_plan
-  plan-length = lines-count letter_p K (plan_numbers network first plan h)
+  plan-length = lines-count letter_p K (half_plan_numbers network first plan h)
 
   -- ---- the half
   pub is-half : Formed network → ValidNetwork network → past_count network ≡ 0 → IsHalf network plan N P first h

@@ -16,7 +16,7 @@ use Rattle.model_split.specs.Numbering.{rank}
 use Rattle.model_split.specs.Halves.{Half, first_half, second_half, half_network, half_plan, half_network_text, half_plan_text}
 use Rattle.model_split.proofs.Names.{counts_of}
 use Rattle.model_split.specs.Call.{in_set, form_checks, part_checks, network_text₁, plan_text₁, network_text₂, plan_text₂}
-use Rattle.model_split.specs.Splits.{Texts, network_of, plan_for, Accepts, ledger_size, totals_of, row_of, first, second, number₁, number₂, written_let_out, written_admitted, Match, border_volume, Room, HalvesAccepted, AddUp, Splits}
+use Rattle.model_split.specs.Splits.{Texts, network_of, plan_for, Accepts, ledger_size, totals_of, ledger_row, first, second, number₁, number₂, written_let_out, written_admitted, Match, border_volume, Room, HalvesAccepted, AddUp, Splits}
 use Rattle.model_split.proofs.Numbering.{rank_lt}
 use Rattle.model_split.proofs.Border.{Splittable, splittable}
 use Rattle.model_split.proofs.Lines.{half-links, half-steps, plan-length}
@@ -126,8 +126,8 @@ module _ (whole : Texts) (set : ℕ) (passes : verdict (part_checks (network_of 
     t = accepts size accepted
 
     first_rows : (n i : ℕ) → n ≤ K → i < L → in_set set i ≡ true
-        → (get_or (row_of (first whole set) n) (2 * number₁ whole set i) 0 ≡ get_or (row_of whole n) (2 * i) 0)
-        × (get_or (row_of (first whole set) n) (2 * number₁ whole set i + 1) 0 ≡ get_or (row_of whole n) (2 * i + 1) 0)
+        → (get_or (ledger_row (first whole set) n) (2 * number₁ whole set i) 0 ≡ get_or (ledger_row whole n) (2 * i) 0)
+        × (get_or (ledger_row (first whole set) n) (2 * number₁ whole set i + 1) 0 ≡ get_or (ledger_row whole n) (2 * i + 1) 0)
     first_rows n i l u e =
         let h = first_half network (in_set set) in
         let few : rank (in_set set) i < link_count (network_by network plan (in_set set) h₁) =
@@ -138,8 +138,8 @@ module _ (whole : Texts) (set : ℕ) (passes : verdict (part_checks (network_of 
         rw (back₁.1, back₁.0) (here.0 ∙ same.0 ∙ sym there.0, here.1 ∙ same.1 ∙ sym there.1)
 
     second-rows : (n i : ℕ) → n ≤ K → i < L → not (in_set set i) ≡ true
-        → (get_or (row_of (second whole set) n) (2 * number₂ whole set i) 0 ≡ get_or (row_of whole n) (2 * i) 0)
-        × (get_or (row_of (second whole set) n) (2 * number₂ whole set i + 1) 0 ≡ get_or (row_of whole n) (2 * i + 1) 0)
+        → (get_or (ledger_row (second whole set) n) (2 * number₂ whole set i) 0 ≡ get_or (ledger_row whole n) (2 * i) 0)
+        × (get_or (ledger_row (second whole set) n) (2 * number₂ whole set i + 1) 0 ≡ get_or (ledger_row whole n) (2 * i + 1) 0)
     second-rows n i l u e =
         let h = second_half network (in_set set) in
         let few : rank (λ k. not (in_set set k)) i < link_count (network_by network plan (in_set set) h₂) =

@@ -11,7 +11,7 @@ use Rattle.model.proofs.Accepted.{ValidNetwork}
 use Rattle.model.proofs.Trams.{tram-at}
 use Rattle.model_text.proofs.Formed.{Formed, trams-length}
 use Rattle.model_split.specs.Numbering.{rank, picked}
-use Rattle.model_split.specs.Halves.{Half, signal_number, follows, tram_numbers}
+use Rattle.model_split.specs.Halves.{Half, signal_number, follows, half_tram_numbers}
 use Rattle.model_split.proofs.Numbering.{renumbered}
 
 -- the phase that the lines ask of signal r in step n, or a given one where none does
@@ -48,10 +48,10 @@ module _ (network : List Line) (h : Half) (formed : Formed network) (valid : Val
     new_signal = rank h.has-signal r
 
     abbrev new : ℕ → Line
-    new k = record_line letter_t (tram_numbers network h k)
+    new k = record_line letter_t (half_tram_numbers network h k)
 
     covers-same : (k : ℕ) → k < tram_count network → follows network h k ≡ true → covers (new k) new_signal n ≡ covers (tram network k) r n
-    unfolding covers tram_numbers record_line number number_of follows
+    unfolding covers half_tram_numbers record_line number number_of follows
     covers-same k l f = rw (tram-signal k l, renumbered h.has-signal (number (tram network k) 0) r (signal-there k l).0 f s)
 
     covers-none : (k : ℕ) → k < tram_count network → follows network h k ≡ false → covers (tram network k) r n ≡ false
@@ -62,30 +62,30 @@ module _ (network : List Line) (h : Half) (formed : Formed network) (valid : Val
 
     -- one line: of the half it is there or not
     line-phase : (k d : ℕ) → k < tram_count network
-        → phase_or (map (record_line letter_t) (cond (follows network h k) (tram_numbers network h k ∷ []) [])) new_signal n d ≡ cond (covers (tram network k) r n) (number (tram network k) 1) d
+        → phase_or (map (record_line letter_t) (cond (follows network h k) (half_tram_numbers network h k ∷ []) [])) new_signal n d ≡ cond (covers (tram network k) r n) (number (tram network k) 1) d
     line-phase k d l = go (either_way (follows network h k))
       where
         phase : number (new k) 1 ≡ number (tram network k) 1
-        phase = unfold tram_numbers record_line number number_of in refl
+        phase = unfold half_tram_numbers record_line number number_of in refl
 
         go : (follows network h k ≡ true) ⊎ (follows network h k ≡ false)
-            → phase_or (map (record_line letter_t) (cond (follows network h k) (tram_numbers network h k ∷ []) [])) new_signal n d ≡ cond (covers (tram network k) r n) (number (tram network k) 1) d
+            → phase_or (map (record_line letter_t) (cond (follows network h k) (half_tram_numbers network h k ∷ []) [])) new_signal n d ≡ cond (covers (tram network k) r n) (number (tram network k) 1) d
         go (inl f) = rw (f, covers-same k l f, phase)
         go (inr f) = rw (f, covers-none k l f)
 
     first-lines : (k d : ℕ) → k ≤ tram_count network
-        → phase_or (map (record_line letter_t) (picked k (follows network h) (tram_numbers network h))) new_signal n d ≡ phase_or (take k (trams network)) r n d
+        → phase_or (map (record_line letter_t) (picked k (follows network h) (half_tram_numbers network h))) new_signal n d ≡ phase_or (take k (trams network)) r n d
     unfolding picked
     first-lines zero d l = refl
     first-lines (suc k) d l =
-        ap (λ ts. phase_or ts new_signal n d) (map-append (picked k (follows network h) (tram_numbers network h)) _)
-        ∙ phase-append (map (record_line letter_t) (picked k (follows network h) (tram_numbers network h))) _ new_signal n d
-        ∙ ap (phase_or (map (record_line letter_t) (picked k (follows network h) (tram_numbers network h))) new_signal n) (line-phase k d l)
+        ap (λ ts. phase_or ts new_signal n d) (map-append (picked k (follows network h) (half_tram_numbers network h)) _)
+        ∙ phase-append (map (record_line letter_t) (picked k (follows network h) (half_tram_numbers network h))) _ new_signal n d
+        ∙ ap (phase_or (map (record_line letter_t) (picked k (follows network h) (half_tram_numbers network h))) new_signal n) (line-phase k d l)
         ∙ first-lines k _ (omega arith)
         ∙ sym (phase-append (take k (trams network)) (tram network k ∷ []) r n d)
         ∙ ap (λ ts. phase_or ts r n d) (sym (take-suc (trams network) k no_line (omega (arith, trams-length network formed)) ∙ ap (λ t. take k (trams network) ++ (t ∷ [])) (tram-at network k l)))
 
-    pub half-phase : tram_phase (map (record_line letter_t) (picked (tram_count network) (follows network h) (tram_numbers network h))) new_signal n ≡ tram_phase (trams network) r n
+    pub half-phase : tram_phase (map (record_line letter_t) (picked (tram_count network) (follows network h) (half_tram_numbers network h))) new_signal n ≡ tram_phase (trams network) r n
     half-phase =
         sym (phase-or-none _ new_signal n) ∙ first-lines (tram_count network) 0 (omega arith)
         ∙ ap (λ ts. phase_or ts r n 0) (take_all (tram_count network) (trams network) (omega (arith, trams-length network formed))) ∙ phase-or-none (trams network) r n

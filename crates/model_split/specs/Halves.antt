@@ -38,8 +38,8 @@ module _ (network : List Line) (h : Half) where
   follows k = h.has-signal (number (tram network k) 0 - 1)
 
   -- the numbers of `T` line k, of the `G` line of signal r as it was, and of the `M` line of movement j
-  unfoldable pub tram_numbers : ℕ → List ℕ
-  tram_numbers k =
+  unfoldable pub half_tram_numbers : ℕ → List ℕ
+  half_tram_numbers k =
       signal_number h (number (tram network k) 0) ∷ number (tram network k) 1 ∷ number (tram network k) 2 ∷ number (tram network k) 3 ∷ []
 
   unfoldable pub signal_numbers : ℕ → List ℕ
@@ -101,7 +101,7 @@ module _ (network : List Line) (first : ℕ → Bool) where
           movements = rank (inside network h) (movement_count network);
           steps = step_count network;
           past = 0;
-          trams = picked (tram_count network) (follows network h) (tram_numbers network h);
+          trams = picked (tram_count network) (follows network h) (half_tram_numbers network h);
           signal = λ r. get_or (picked (signal_count network) h.has-signal (signal_numbers network h)) r [];
           link = λ i. get_or (picked (link_count network) h.has-link link_numbers) i [];
           movement = λ j. get_or (picked (movement_count network) (inside network h) (movement_numbers network h)) j [];
@@ -110,8 +110,8 @@ module _ (network : List Line) (first : ℕ → Bool) where
         }
 
     -- line n of its plan: the volume of a border movement is added to what is admitted on the link that it enters, and to what is let out of the link that it leaves
-    unfoldable pub plan_numbers : ℕ → List ℕ
-    plan_numbers n =
+    unfoldable pub half_plan_numbers : ℕ → List ℕ
+    half_plan_numbers n =
         picked (signal_count network) h.has-signal (shown_mask network plan n)
         ++ (picked (link_count network) h.has-link (λ i. in_field (admitted network plan n i + border_in plan n i))
         ++ (picked (link_count network) h.has-link (λ i. in_field (let_out network plan n i + border_out plan n i))
@@ -122,10 +122,10 @@ module _ (network : List Line) (first : ℕ → Bool) where
     half_network = network_lines half_numbers
 
     unfoldable pub half_plan : List Line
-    half_plan = record_lines letter_p (step_count network) plan_numbers
+    half_plan = record_lines letter_p (step_count network) half_plan_numbers
 
     unfoldable pub half_network_text : List ℕ
     half_network_text = network_text half_numbers
 
     unfoldable pub half_plan_text : List ℕ
-    half_plan_text = record_texts letter_p (step_count network) plan_numbers
+    half_plan_text = record_texts letter_p (step_count network) half_plan_numbers

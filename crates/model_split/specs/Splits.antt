@@ -38,8 +38,8 @@ ledger_size t = 2 * suc (step_count (network_of t)) * link_count (network_of t)
 abbrev pub totals_of : Texts → Totals
 totals_of t = totals (network_of t) (plan_for t) (step_count (network_of t))
 
-abbrev pub row_of : Texts → ℕ → List ℕ
-row_of t n = row (network_of t) (plan_for t) n
+abbrev pub ledger_row : Texts → ℕ → List ℕ
+ledger_row t n = row (network_of t) (plan_for t) n
 
 module _ (whole : Texts) (set : ℕ) where
   -- the texts of the two halves, as the call writes them
@@ -100,11 +100,11 @@ pub record HalvesAccepted (whole : Texts) (set size₁ size₂ : ℕ) : Type 0 w
 pub record AddUp (whole : Texts) (set : ℕ) : Type 0 where
   -- the rows of a half are its links' columns of the whole's ..
   pub first_rows : (n i : ℕ) → n ≤ step_count (network_of whole) → i < link_count (network_of whole) → in_set set i ≡ true
-      → (get_or (row_of (first whole set) n) (2 * number₁ whole set i) 0 ≡ get_or (row_of whole n) (2 * i) 0)
-      × (get_or (row_of (first whole set) n) (2 * number₁ whole set i + 1) 0 ≡ get_or (row_of whole n) (2 * i + 1) 0)
+      → (get_or (ledger_row (first whole set) n) (2 * number₁ whole set i) 0 ≡ get_or (ledger_row whole n) (2 * i) 0)
+      × (get_or (ledger_row (first whole set) n) (2 * number₁ whole set i + 1) 0 ≡ get_or (ledger_row whole n) (2 * i + 1) 0)
   pub second-rows : (n i : ℕ) → n ≤ step_count (network_of whole) → i < link_count (network_of whole) → not (in_set set i) ≡ true
-      → (get_or (row_of (second whole set) n) (2 * number₂ whole set i) 0 ≡ get_or (row_of whole n) (2 * i) 0)
-      × (get_or (row_of (second whole set) n) (2 * number₂ whole set i + 1) 0 ≡ get_or (row_of whole n) (2 * i + 1) 0)
+      → (get_or (ledger_row (second whole set) n) (2 * number₂ whole set i) 0 ≡ get_or (ledger_row whole n) (2 * i) 0)
+      × (get_or (ledger_row (second whole set) n) (2 * number₂ whole set i + 1) 0 ≡ get_or (ledger_row whole n) (2 * i + 1) 0)
   -- .. admitted and let out add up with the border volumes left out ..
   pub admissions : (totals_of (first whole set)).admitted + (totals_of (second whole set)).admitted ≡ (totals_of whole).admitted + border_volume whole set
   pub exits : (totals_of (first whole set)).let_out + (totals_of (second whole set)).let_out ≡ (totals_of whole).let_out + border_volume whole set

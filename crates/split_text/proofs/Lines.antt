@@ -5,7 +5,7 @@ use Rattle.text_reader.specs.Lines.{Line}
 use Rattle.text_writer.specs.Records.{record_text}
 use Rattle.base_laws.specs.Indexed.{list}
 use Rattle.model.specs.declared.Signal.{Signal}
-use Rattle.model.specs.Signals.{signal_row as row_of}
+use Rattle.model.specs.Signals.{signal_row}
 use Rattle.model.specs.Network.{max_links, max_signals, max_movements, entry, signal_line, signal}
 use Rattle.model.specs.Table.{letter_n, letter_t, letter_g, letter_q, letter_m}
 use Rattle.network_tables.specs.declared.Counts.{Counts}
@@ -28,7 +28,7 @@ use Rattle.split_tables.specs.declared.HalfTables.{HalfTables}
 use Rattle.split_tables.specs.Whole.{whole_network}
 use Rattle.split_tables.specs.Tables.{is_in, LinksNamed}
 use Rattle.split_tables.proofs.Items.{counted-front}
-use Rattle.split_text.specs.Rows.{signal_number_in, count_row, tram_kept, tram_in, tram_row, signal_row, link_kept, link_row, movement_kept, movement_row, TramsAsked, SignalsAsked, LinksAsked, MovementsAsked}
+use Rattle.split_text.specs.Rows.{signal_number_in, count_row, tram_kept, tram_in, half_tram_row, half_signal_row, link_kept, half_link_row, movement_kept, half_movement_row, TramsAsked, SignalsAsked, LinksAsked, MovementsAsked}
 use Rattle.split_text.specs.Filling.{raised}
 use Rattle.split_text.proofs.Border.{movement-here, border-ends}
 use Rattle.split_text.proofs.Picked.{rows-are, picks-one, picks-other}
@@ -70,12 +70,12 @@ many-of false item row = refl
 
 -- ---- the `G` line of a signal
 -- its row in the table is its line's
-row-read : (network : List Line) (r : ℕ) → row_of (signal network r) ≡ list 22 (entry network (signal_line network r))
-unfolding row_of signal list
+row-read : (network : List Line) (r : ℕ) → signal_row (signal network r) ≡ list 22 (entry network (signal_line network r))
+unfolding signal_row signal list
 row-read network r = refl
 
-signal-front : (network : List Line) (r : ℕ) → (signal network r).phases ≤ 8 → take (6 + 2 * (signal network r).phases) (row_of (signal network r)) ≡ signal_row network r
-unfolding signal_row
+signal-front : (network : List Line) (r : ℕ) → (signal network r).phases ≤ 8 → take (6 + 2 * (signal network r).phases) (signal_row (signal network r)) ≡ half_signal_row network r
+unfolding half_signal_row
 signal-front network r few =
     rw row-read
     (numbers-are (6 + 2 * (signal network r).phases) (entry network (signal_line network r)) (list 22 (entry network (signal_line network r)))
@@ -88,34 +88,34 @@ module _ {whole : Whole} {old : Output} (a : SignalsAsked whole old) (half : Hal
   abbrev front : List Signal
   front = take many whole.signals.now
 
-  module _ {r : ℕ} (h : r < length front) {now : Output} (t : Put r (line_texts letter_g (picked r (is_in half.signals) (signal_row (whole_network whole)))) old now) where
+  module _ {r : ℕ} (h : r < length front) {now : Output} (t : Put r (line_texts letter_g (picked r (is_in half.signals) (half_signal_row (whole_network whole)))) old now) where
     signal-here : (none : Signal) → get_or front r none ≡ signal (whole_network whole) r
     signal-here none =
         let u : r < many = omega (arith, h, length-take {A = Signal}) in
         get_or-take many whole.signals.now r none u ∙ get_or_default whole.signals.now r none _ (omega (arith, h, length-take {A = Signal})) ∙ a.holds r u
 
-    pub signals-more : get_or half.signals r 0 ≢ 0 → (none : Signal) → {row : List ℕ} → row ≡ row_of (get_or front r none) → {width : ℕ} → width ≡ 6 + 2 * (get_or front r none).phases → {new : Output}
-        → Put 1 (record_text letter_g (take width row)) now new → Put (r + 1) (line_texts letter_g (picked (r + 1) (is_in half.signals) (signal_row (whole_network whole)))) old new
+    pub signals-more : get_or half.signals r 0 ≢ 0 → (none : Signal) → {row : List ℕ} → row ≡ signal_row (get_or front r none) → {width : ℕ} → width ≡ 6 + 2 * (get_or front r none).phases → {new : Output}
+        → Put 1 (record_text letter_g (take width row)) now new → Put (r + 1) (line_texts letter_g (picked (r + 1) (is_in half.signals) (half_signal_row (whole_network whole)))) old new
     unfolding is_in
     signals-more some none e w p =
         picks-one letter_g _ _ t (ap not (ne_eqb (get_or half.signals r 0) 0 some))
         (rw (e, w, signal-here none, signal-front (whole_network whole) r (a.few-phases r (omega (arith, h, length-take {A = Signal})))) at p)
 
-    pub signals-same : get_or half.signals r 0 ≡ 0 → Put (r + 1) (line_texts letter_g (picked (r + 1) (is_in half.signals) (signal_row (whole_network whole)))) old now
+    pub signals-same : get_or half.signals r 0 ≡ 0 → Put (r + 1) (line_texts letter_g (picked (r + 1) (is_in half.signals) (half_signal_row (whole_network whole)))) old now
     unfolding is_in
     signals-same none = picks-other letter_g _ _ t (ap not (eq-eqb (get_or half.signals r 0) 0 none))
 
 -- ---- the `T` lines
 module _ (trams : List Tram) (half : HalfTables) where
   abbrev pub tram-rows : ℕ → List (List ℕ)
-  tram-rows k = cond (tram_in trams half k) (tram_row trams half k ∷ []) []
+  tram-rows k = cond (tram_in trams half k) (half_tram_row trams half k ∷ []) []
 
   module _ (k : ℕ) (none : Tram) (h : k < length trams) where
     at-k : get_or trams k none ≡ tram_at trams k
     at-k = get_or_default trams k none (tram_by (λ k. 0)) h
 
     pub tram-given : (changed : Option Tram) → changed ≡ tram_kept half (get_or trams k none) → RowIs (λ tram row. row ≡ fields.tram_row tram) changed (tram-rows k)
-    unfolding tram_kept tram_in tram_row
+    unfolding tram_kept tram_in half_tram_row
     tram-given changed e = rw (e, at-k) (row-of fields.tram_row (eqb (signal_number_in half (tram_at trams k).signal) 0) _ _ refl)
 
     pub tram-many : (changed : Option Tram) → changed ≡ tram_kept half (get_or trams k none) → length (option_to_list changed) ≡ length (tram-rows k)
@@ -123,42 +123,42 @@ module _ (trams : List Tram) (half : HalfTables) where
     tram-many changed e = rw (e, at-k) (many-of (eqb (signal_number_in half (tram_at trams k).signal) 0) _ _)
 
   pub trams-put : {old new : Output} → Put (length trams) (line_texts letter_t (rows_to (length trams) tram-rows)) old new
-      → Put (length trams) (line_texts letter_t (picked (length trams) (tram_in trams half) (tram_row trams half))) old new
-  trams-put p = rw (rows-are (length trams) (tram_in trams half) (tram_row trams half)) at p
+      → Put (length trams) (line_texts letter_t (picked (length trams) (tram_in trams half) (half_tram_row trams half))) old new
+  trams-put p = rw (rows-are (length trams) (tram_in trams half) (half_tram_row trams half)) at p
 
   pub trams-found : {found : ℕ} → found ≡ length (rows_to (length trams) tram-rows) → found ≡ rank (tram_in trams half) (length trams)
-  trams-found e = e ∙ ap length (rows-are (length trams) (tram_in trams half) (tram_row trams half)) ∙ picked-length (tram_in trams half) (tram_row trams half) (length trams)
+  trams-found e = e ∙ ap length (rows-are (length trams) (tram_in trams half) (half_tram_row trams half)) ∙ picked-length (tram_in trams half) (half_tram_row trams half) (length trams)
 
 -- ---- the `Q` lines of a table's links
 module _ (links : List Link) (rates : List ℕ) (half : HalfTables) where
   abbrev pub link-rows : ℕ → List (List ℕ)
-  link-rows i = cond (is_in half.links i) (link_row links rates half i ∷ []) []
+  link-rows i = cond (is_in half.links i) (half_link_row links rates half i ∷ []) []
 
   module _ (i : ℕ) (none : Link) (h : i < length links) where
     pub link-here : get_or links i none ≡ link_at links i
     link-here = get_or_default links i none (link_by (λ k. 0)) h
 
     pub link-given : (changed : Option Link) → changed ≡ link_kept rates half i (get_or links i none) → RowIs (λ link row. row ≡ fields.link_row link) changed (link-rows i)
-    unfolding link_kept link_row is_in raised
+    unfolding link_kept half_link_row is_in raised
     link-given changed e = rw (e, link-here) (row-of fields.link_row (eqb (get_or half.links i 0) 0) _ _ refl)
 
   pub links-put : {n : ℕ} → length links ≡ n → {old new : Output} → Put (length links) (line_texts letter_q (rows_to (length links) link-rows)) old new
-      → Put n (line_texts letter_q (picked n (is_in half.links) (link_row links rates half))) old new
-  links-put {n} e p = rw (e, rows-are n (is_in half.links) (link_row links rates half)) at p
+      → Put n (line_texts letter_q (picked n (is_in half.links) (half_link_row links rates half))) old new
+  links-put {n} e p = rw (e, rows-are n (is_in half.links) (half_link_row links rates half)) at p
 
 -- ---- the `M` lines of a table's movements
 module _ (movements : List Movement) (half : HalfTables) where
   abbrev pub movement-rows : ℕ → List (List ℕ)
-  movement-rows j = cond (is_in half.movements j) (movement_row movements half j ∷ []) []
+  movement-rows j = cond (is_in half.movements j) (half_movement_row movements half j ∷ []) []
 
   module _ (j : ℕ) (none : Movement) (h : j < length movements) where
     pub movement-given : (changed : Option Movement) → changed ≡ movement_kept half j (get_or movements j none) → RowIs (λ movement row. row ≡ fields.movement_row movement) changed (movement-rows j)
-    unfolding movement_kept movement_row is_in
+    unfolding movement_kept half_movement_row is_in
     movement-given changed e = rw (e, movement-here movements j none h) (row-of fields.movement_row (eqb (get_or half.movements j 0) 0) _ _ refl)
 
   pub movements-put : {n : ℕ} → length movements ≡ n → {old new : Output} → Put (length movements) (line_texts letter_m (rows_to (length movements) movement-rows)) old new
-      → Put n (line_texts letter_m (picked n (is_in half.movements) (movement_row movements half))) old new
-  movements-put {n} e p = rw (e, rows-are n (is_in half.movements) (movement_row movements half)) at p
+      → Put n (line_texts letter_m (picked n (is_in half.movements) (half_movement_row movements half))) old new
+  movements-put {n} e p = rw (e, rows-are n (is_in half.movements) (half_movement_row movements half)) at p
 
 -- ---- what is asked of each item
 pub tram-signal : (trams : List Tram) → TramsAsked trams → (k : ℕ) (none : Tram) → k < length trams → (get_or trams k none).signal ≤ max_signals

@@ -22,7 +22,7 @@ use Rattle.network_tables.specs.Tables.{CountsHold, TramTable, LinkTable, Moveme
 use Rattle.network_tables.proofs.Tables.{capacity-at, travel-time-at, exit-rate-at, signal-of-at, phase-mask-at, standing-at, waiting-at-start-at, from-link-at, to-link-at, rate-at, share-at, step-length-at, demand-at, shown-mask-at, admitted-at, let-out-at, moved_at}
 use Rattle.model_text.proofs.Formed.{Formed, formed-of-holds}
 use Rattle.model_split.specs.Numbering.{rank, picked}
-use Rattle.model_split.specs.Halves.{Half, in_field, link_number, signal_number, inside, follows, tram_numbers, movement_numbers, crosses, crossing_into, crossing_from, border_rate, border_in, border_out, first_half, second_half, link_numbers, step_numbers, plan_numbers}
+use Rattle.model_split.specs.Halves.{Half, in_field, link_number, signal_number, inside, follows, half_tram_numbers, movement_numbers, crosses, crossing_into, crossing_from, border_rate, border_in, border_out, first_half, second_half, link_numbers, step_numbers, half_plan_numbers}
 use Rattle.model_split.specs.Call.{in_set}
 use Rattle.model_split.proofs.Same.{Apart, in_field_lem}
 use Rattle.model_split.proofs.Border.{Splittable, splittable, first-apart, second-apart}
@@ -34,7 +34,7 @@ use Rattle.split_tables.proofs.Ends.{from-there, to-there}
 use Rattle.split_tables.proofs.Tables.{border-is, half-has-link, half-has-signal, half-has-movement}
 use Rattle.split_text.specs.Border.{border_sum, Bordered}
 use Rattle.split_text.specs.Filling.{raised}
-use Rattle.split_text.specs.Rows.{signal_number_in, tram_in, tram_row, link_row, movement_row}
+use Rattle.split_text.specs.Rows.{signal_number_in, tram_in, half_tram_row, half_link_row, half_movement_row}
 use Rattle.split_text.proofs.Picked.{picked_same}
 use Rattle.split_text.specs.Halves.{OneHalf}
 
@@ -81,14 +81,14 @@ module _ {network : List Line} (holds : Hold (network_checks network)) {set : �
         let t = signal-there network h formed valid k l in
         rw (loaded.holds k l, ne_eqb (number (tram network k) 0) 0 (λ e. omega (arith, t.0))) (half-has-signal table (number (tram network k) 0 - 1) (omega (arith, t)))
 
-    pub tram-same : (k : ℕ) → k < tram_count network → follows network h k ≡ true → tram_row trams half k ≡ tram_numbers network h k
-    unfolding tram_row tram_numbers follows entry
+    pub tram-same : (k : ℕ) → k < tram_count network → follows network h k ≡ true → half_tram_row trams half k ≡ half_tram_numbers network h k
+    unfolding half_tram_row half_tram_numbers follows entry
     tram-same k l f = rw (loaded.holds k l, signal-is (number (tram network k) 0) (signal-there network h formed valid k l).1 (λ o. f)) refl
 
   -- ---- movements
   module _ {movements : List Movement} (moves : MovementTable network movements) where
-    pub movement-same : (j : ℕ) → j < movement_count network → inside network h j ≡ true → movement_row movements half j ≡ movement_numbers network h j
-    unfolding movement_row movement_numbers link_number inside
+    pub movement-same : (j : ℕ) → j < movement_count network → inside network h j ≡ true → half_movement_row movements half j ≡ movement_numbers network h j
+    unfolding half_movement_row movement_numbers link_number inside
     movement-same j l i =
         let from = and_left (h.has-link (from_link network j - 1)) (h.has-link (to_link network j - 1)) i in
         let to = and_right (h.has-link (from_link network j - 1)) (h.has-link (to_link network j - 1)) i in
@@ -123,8 +123,8 @@ module _ {network : List Line} (holds : Hold (network_checks network)) {set : �
       unfolding crossing_from
       rates-are = border-at (from-link-at moves) counted (rate network) (rate-at moves) r
 
-      pub link-same : (i : ℕ) → i < link_count network → h.has-link i ≡ true → link_row links rates half i ≡ link_numbers network first plan h i
-      unfolding link_row link_numbers raised
+      pub link-same : (i : ℕ) → i < link_count network → h.has-link i ≡ true → half_link_row links rates half i ≡ link_numbers network first plan h i
+      unfolding half_link_row link_numbers raised
       link-same i l own =
           let small : exit_rate network i + border_rate network first i ≤ largest = omega (arith, exit_small network first valid split i l) in
           rw (
@@ -170,8 +170,8 @@ module _ {network : List Line} (holds : Hold (network_checks network)) {set : �
           ++ (picked c.links (is_in half.links) (raised (admitted_in c line) into)
           ++ (picked c.links (is_in half.links) (raised (let_out_in c line) from)
           ++ picked c.movements (is_in half.movements) (moved_in c line)))
-          ≡ plan_numbers network first plan h n
-      unfolding plan_numbers raised
+          ≡ half_plan_numbers network first plan h n
+      unfolding half_plan_numbers raised
       row-written {into} {from} b d = four masks admissions exits volumes
         where
           four : {a a' b b' c c' d d' : List ℕ} → a ≡ a' → b ≡ b' → c ≡ c' → d ≡ d' → a ++ (b ++ (c ++ d)) ≡ a' ++ (b' ++ (c' ++ d'))

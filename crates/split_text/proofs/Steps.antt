@@ -15,7 +15,7 @@ use Rattle.network_writer.proofs.Texts.{put_first}
 use Rattle.plan_steps.specs.declared.Place.{Place}
 use Rattle.plan_steps.specs.PlanLine.{PlanAt}
 use Rattle.plan_steps.specs.Reading.{PlaceAt}
-use Rattle.model_split.specs.Halves.{Half, step_numbers, plan_numbers, half_plan_text}
+use Rattle.model_split.specs.Halves.{Half, step_numbers, half_plan_numbers, half_plan_text}
 use Rattle.model_split.specs.Call.{in_set}
 use Rattle.split_tables.specs.declared.Whole.{Whole}
 use Rattle.split_tables.specs.declared.HalfTables.{HalfTables}
@@ -68,7 +68,7 @@ module _ {whole : Whole} {half : HalfTables} {old : Output} (a : StepsAsked whol
 pub record PlanTo (whole : Whole) (half : HalfTables) (old : Output) (at : ℕ) (now : Output) (n : ℕ) : Type 0 where
   pub starts : PlanAt whole.plan.now at n
   pub put : (network_text : List ℕ) → Held network_text whole → (set : ℕ) (h : Half) → OneHalf (lines network_text) set h half
-      → Put n (record_texts letter_p n (plan_numbers (lines network_text) (in_set set) (plan_of network_text whole.plan.now) h)) old now
+      → Put n (record_texts letter_p n (half_plan_numbers (lines network_text) (in_set set) (plan_of network_text whole.plan.now) h)) old now
 
 module _ {whole : Whole} {half : HalfTables} {old : Output} where
   pub plan-none : PlanTo whole half old 0 old 0

@@ -23,7 +23,7 @@ use Rattle.network_writer.proofs.Put.{puts-more}
 use Rattle.model_text.specs.NetworkText.{count_numbers, network_text}
 use Rattle.model_text.proofs.Formed.{Formed, formed-of-holds}
 use Rattle.model_split.specs.Numbering.{rank, picked}
-use Rattle.model_split.specs.Halves.{Half, inside, follows, tram_numbers, signal_numbers, movement_numbers, link_numbers, step_numbers, half_numbers, half_network_text}
+use Rattle.model_split.specs.Halves.{Half, inside, follows, half_tram_numbers, signal_numbers, movement_numbers, link_numbers, step_numbers, half_numbers, half_network_text}
 use Rattle.model_split.specs.Call.{in_set}
 use Rattle.model_split.proofs.Numbering.{picked-length, rank-le}
 use Rattle.split_tables.specs.declared.Whole.{Whole}
@@ -34,7 +34,7 @@ use Rattle.split_tables.proofs.Tables.{half-has-link, half-has-signal, half-has-
 use Rattle.split_tables.proofs.Ends.{movements-there}
 use Rattle.split_tables.proofs.Items.{rank-ext}
 use Rattle.split_text.specs.Border.{Bordered}
-use Rattle.split_text.specs.Rows.{count_row, tram_in, tram_row, signal_row, link_row, movement_row, CountsAsked, TramsAsked, SignalsAsked, LinksAsked, MovementsAsked}
+use Rattle.split_text.specs.Rows.{count_row, tram_in, half_tram_row, half_signal_row, half_link_row, half_movement_row, CountsAsked, TramsAsked, SignalsAsked, LinksAsked, MovementsAsked}
 use Rattle.split_text.proofs.Picked.{picked_same, picked-texts}
 use Rattle.split_text.specs.Halves.{OneHalf, Held, StepsAsked, StepsPut, NetworkAsked, NetworkPut}
 use Rattle.split_text.proofs.Steps.{put-at-first}
@@ -138,32 +138,32 @@ module _ {whole : Whole} {half : HalfTables} (a : NetworkAsked whole half) where
       (start : old.at ≡ 0)
       (found : count ≡ rank (tram_in trams half) (length trams))
       (p₁ : Put 1 (record_text letter_n (count_row counts count half)) old o₁)
-      (p₂ : Put (length trams) (line_texts letter_t (picked (length trams) (tram_in trams half) (tram_row trams half))) o₁ o₂)
-      (p₃ : Put counts.signals (line_texts letter_g (picked counts.signals (is_in half.signals) (signal_row net))) o₂ o₃)
-      (p₄ : Put counts.links (line_texts letter_q (picked counts.links (is_in half.links) (link_row whole.tables.links.now rates half))) o₃ o₄)
-      (p₅ : Put counts.movements (line_texts letter_m (picked counts.movements (is_in half.movements) (movement_row whole.tables.movements.now half))) o₄ o₅)
+      (p₂ : Put (length trams) (line_texts letter_t (picked (length trams) (tram_in trams half) (half_tram_row trams half))) o₁ o₂)
+      (p₃ : Put counts.signals (line_texts letter_g (picked counts.signals (is_in half.signals) (half_signal_row net))) o₂ o₃)
+      (p₄ : Put counts.links (line_texts letter_q (picked counts.links (is_in half.links) (half_link_row whole.tables.links.now rates half))) o₃ o₄)
+      (p₅ : Put counts.movements (line_texts letter_m (picked counts.movements (is_in half.movements) (half_movement_row whole.tables.movements.now half))) o₄ o₅)
       (p₆ : StepsPut whole half o₅ new) where
     module _ (set : ℕ) (h : Half) (one : OneHalf net set h half) where
       abbrev plan : List Line
       plan = whole_plan whole
 
-      trams-same : picked (length trams) (tram_in trams half) (tram_row trams half) ≡ picked (tram_count net) (follows net h) (tram_numbers net h)
+      trams-same : picked (length trams) (tram_in trams half) (half_tram_row trams half) ≡ picked (tram_count net) (follows net h) (half_tram_numbers net h)
       trams-same =
           rw loaded.size
           (picked_same (tram_count net) _ _ _ _ (tram-follows held.holds one loaded) (tram-same held.holds one loaded))
 
-      signals-same : picked counts.signals (is_in half.signals) (signal_row net) ≡ picked (signal_count net) h.has-signal (signal_numbers net h)
-      unfolding signal_row signal_numbers
+      signals-same : picked counts.signals (is_in half.signals) (half_signal_row net) ≡ picked (signal_count net) h.has-signal (signal_numbers net h)
+      unfolding half_signal_row signal_numbers
       signals-same =
           rw held.counted.signals
           (picked_same (signal_count net) _ _ _ _ (half-has-signal one.numbered) (λ r l own. refl))
 
-      links-same : picked counts.links (is_in half.links) (link_row whole.tables.links.now rates half) ≡ picked (link_count net) h.has-link (link_numbers net (in_set set) plan h)
+      links-same : picked counts.links (is_in half.links) (half_link_row whole.tables.links.now rates half) ≡ picked (link_count net) h.has-link (link_numbers net (in_set set) plan h)
       links-same =
           rw held.counted.links
           (picked_same (link_count net) _ _ _ _ (half-has-link one.numbered) (link-same held.holds one held.movement-table a.link-table plan held.counted.movements b))
 
-      movements-same : picked counts.movements (is_in half.movements) (movement_row whole.tables.movements.now half) ≡ picked (movement_count net) (inside net h) (movement_numbers net h)
+      movements-same : picked counts.movements (is_in half.movements) (half_movement_row whole.tables.movements.now half) ≡ picked (movement_count net) (inside net h) (movement_numbers net h)
       movements-same =
           rw held.counted.movements
           (picked_same (movement_count net) _ _ _ _ (half-has-movement one.numbered) (movement-same held.holds one held.movement-table))
@@ -172,13 +172,13 @@ module _ {whole : Whole} {half : HalfTables} (a : NetworkAsked whole half) where
       unfolding count_numbers half_numbers
       counts_same =
           count-row-is one.numbered held.counted
-          (found ∙ rank-ext (length trams) (tram_in trams half) (follows net h) (λ k l. tram-follows held.holds one loaded k (omega (arith, loaded.size))) ∙ rw loaded.size (sym (picked-length (follows net h) (tram_numbers net h) (tram_count net))))
+          (found ∙ rank-ext (length trams) (tram_in trams half) (follows net h) (λ k l. tram-follows held.holds one loaded k (omega (arith, loaded.size))) ∙ rw loaded.size (sym (picked-length (follows net h) (half_tram_numbers net h) (tram_count net))))
 
       whole-text : record_text letter_n (count_row counts count half)
-          ++ (line_texts letter_t (picked (length trams) (tram_in trams half) (tram_row trams half))
-          ++ (line_texts letter_g (picked counts.signals (is_in half.signals) (signal_row net))
-          ++ (line_texts letter_q (picked counts.links (is_in half.links) (link_row whole.tables.links.now rates half))
-          ++ (line_texts letter_m (picked counts.movements (is_in half.movements) (movement_row whole.tables.movements.now half))
+          ++ (line_texts letter_t (picked (length trams) (tram_in trams half) (half_tram_row trams half))
+          ++ (line_texts letter_g (picked counts.signals (is_in half.signals) (half_signal_row net))
+          ++ (line_texts letter_q (picked counts.links (is_in half.links) (half_link_row whole.tables.links.now rates half))
+          ++ (line_texts letter_m (picked counts.movements (is_in half.movements) (half_movement_row whole.tables.movements.now half))
           ++ record_texts letter_s counts.steps (step_numbers net (in_set set) plan h)))))
           ≡ half_network_text net (in_set set) plan h
       unfolding half_network_text network_text half_numbers record_texts
@@ -190,11 +190,11 @@ module _ {whole : Whole} {half : HalfTables} (a : NetworkAsked whole half) where
             links-same,
             movements-same,
             held.counted.steps,
-            picked-texts letter_t (tram_count net) (follows net h) (tram_numbers net h),
+            picked-texts letter_t (tram_count net) (follows net h) (half_tram_numbers net h),
             picked-texts letter_g (signal_count net) h.has-signal (signal_numbers net h),
             picked-texts letter_q (link_count net) h.has-link (link_numbers net (in_set set) plan h),
             picked-texts letter_m (movement_count net) (inside net h) (movement_numbers net h),
-            picked-length (follows net h) (tram_numbers net h) (tram_count net),
+            picked-length (follows net h) (half_tram_numbers net h) (tram_count net),
           ) refl
 
     pub all-put : NetworkPut whole half old.out.now new.out.now new.at

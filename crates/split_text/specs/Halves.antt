@@ -13,7 +13,7 @@ use Rattle.network_writer.specs.Put.{Put, PutWhole, Early}
 use Rattle.plan_steps.specs.declared.Place.{Place}
 use Rattle.plan_steps.specs.Reading.{PlaceAt}
 use Rattle.plan_steps.specs.PlanLine.{PlanAt, LineGot}
-use Rattle.model_split.specs.Halves.{Half, first_half, second_half, step_numbers, plan_numbers, half_network_text, half_plan_text}
+use Rattle.model_split.specs.Halves.{Half, first_half, second_half, step_numbers, half_plan_numbers, half_network_text, half_plan_text}
 use Rattle.model_split.specs.Call.{in_set, can_split, parts_signals}
 use Rattle.split_tables.specs.declared.Whole.{Whole}
 use Rattle.split_tables.specs.declared.HalfTables.{HalfTables}
@@ -65,7 +65,7 @@ abbrev pub LinePut : Whole → HalfTables → ℕ → Output → Output → ℕ 
 LinePut whole half at old new next =
     (network_text : List ℕ) → Held network_text whole → (set : ℕ) (h : Half) → OneHalf (lines network_text) set h half → (n : ℕ)
     → n < step_count (lines network_text) → PlanAt whole.plan.now at n
-    → Put 1 (record_text letter_p (plan_numbers (lines network_text) (in_set set) (plan_of network_text whole.plan.now) h n)) old new
+    → Put 1 (record_text letter_p (half_plan_numbers (lines network_text) (in_set set) (plan_of network_text whole.plan.now) h n)) old new
     × PlanAt whole.plan.now next (suc n)
 
 -- ---- the `S` lines

@@ -41,8 +41,8 @@ tram_kept half tram =
 unfoldable pub tram_in : List Tram → HalfTables → ℕ → Bool
 tram_in trams half k = not (eqb (signal_number_in half (tram_at trams k).signal) 0)
 
-unfoldable pub tram_row : List Tram → HalfTables → ℕ → List ℕ
-tram_row trams half k =
+unfoldable pub half_tram_row : List Tram → HalfTables → ℕ → List ℕ
+half_tram_row trams half k =
     signal_number_in half (tram_at trams k).signal ∷ (tram_at trams k).phase ∷ (tram_at trams k).first_step ∷ (tram_at trams k).last_step ∷ []
 
 -- a link and a movement as the half has them, if they are there
@@ -72,16 +72,16 @@ movement_kept half j movement =
     }))
 
 -- the `G` line of signal r, the `Q` line of link i, the `M` line of movement j
-unfoldable pub signal_row : List Line → ℕ → List ℕ
-signal_row network r = list (6 + 2 * (signal network r).phases) (entry network (signal_line network r))
+unfoldable pub half_signal_row : List Line → ℕ → List ℕ
+half_signal_row network r = list (6 + 2 * (signal network r).phases) (entry network (signal_line network r))
 
-unfoldable pub link_row : List Link → List ℕ → HalfTables → ℕ → List ℕ
-link_row links rates half i =
+unfoldable pub half_link_row : List Link → List ℕ → HalfTables → ℕ → List ℕ
+half_link_row links rates half i =
     capacity_in links i ∷ travel_time_in links i ∷ raised (exit_rate_in links) rates i ∷ signal_number_in half (signal_in links i)
     ∷ phase_mask_in links i ∷ standing_in links i ∷ waiting_at_start_in links i ∷ []
 
-unfoldable pub movement_row : List Movement → HalfTables → ℕ → List ℕ
-movement_row movements half j =
+unfoldable pub half_movement_row : List Movement → HalfTables → ℕ → List ℕ
+half_movement_row movements half j =
     get_or half.links (link_in movements 0 j - 1) 0 ∷ get_or half.links (link_in movements 1 j - 1) 0 ∷ rate_in movements j ∷ share_in movements j ∷ []
 
 -- ---- asked

@@ -16,7 +16,7 @@ ghost use Rattle.split_tables.specs.Tables.{is_in, LinksNamed};
 ghost use Rattle.split_tables.specs.Items.{Asks, Gives};
 ghost use Rattle.plan_steps.specs.PlanLine.{LineAsked};
 ghost use Rattle.split_text.specs.Halves.{PlanLineRead, StepAsked, StepPut, StepsAsked, StepsPut, PlanAsked, PlanLineAsked, LinePut, PlanPut, NetworkAsked, NetworkPut};
-ghost use Rattle.split_text.specs.Rows.{signal_number_in, count_row, tram_kept, tram_in, tram_row, signal_row, link_kept, link_row, movement_kept, movement_row, CountsAsked, TramsAsked, SignalsAsked, LinksAsked, MovementsAsked};
+ghost use Rattle.split_text.specs.Rows.{signal_number_in, count_row, tram_kept, tram_in, half_tram_row, half_signal_row, link_kept, half_link_row, movement_kept, half_movement_row, CountsAsked, TramsAsked, SignalsAsked, LinksAsked, MovementsAsked};
 ghost use Rattle.split_text.specs.Filling.{Filled, FilledMost, FillAsked};
 ghost use Rattle.split_text.specs.Border.{side_number, end_on, added_at, BorderAsked, Bordered};
 
@@ -73,7 +73,7 @@ fn tram_kept(tram: Tram, half: &HalfTables) -> Option<Tram>
 // Puts the `T` lines that follow their signal into the half.
 fn put_trams(trams: &[Tram], half: &HalfTables, output: &mut Output)
     requires { TramsAsked trams.now × Early (length trams.now) output.old }
-    ensures { Put (length trams.now) (line_texts letter_t (picked (length trams.now) (tram_in trams.now half.now) (tram_row trams.now half.now))) output.old output.new }
+    ensures { Put (length trams.now) (line_texts letter_t (picked (length trams.now) (tram_in trams.now half.now) (half_tram_row trams.now half.now))) output.old output.new }
 {
     output.put_rows(b'T', trams, |_, tram| tram_kept(tram, half));
 }
@@ -82,7 +82,7 @@ fn put_trams(trams: &[Tram], half: &HalfTables, output: &mut Output)
 // numbers in a contract longer than they are.
 fn put_signals(whole: &Whole, half: &HalfTables, output: &mut Output)
     requires { SignalsAsked whole.now output.old }
-    ensures { Put whole.now.tables.reading.counts.signals (line_texts letter_g (picked whole.now.tables.reading.counts.signals (is_in half.now.signals) (signal_row (whole_network whole.now)))) output.old output.new }
+    ensures { Put whole.now.tables.reading.counts.signals (line_texts letter_g (picked whole.now.tables.reading.counts.signals (is_in half.now.signals) (half_signal_row (whole_network whole.now)))) output.old output.new }
 {
     let signals = &whole.signals[..whole.tables.reading.counts.signals];
     for (r, signal) in signals.iter().enumerate() {
@@ -117,7 +117,7 @@ fn put_links(
     output: &mut Output,
 )
     requires { LinksAsked tables.now output.old }
-    ensures { Put tables.now.reading.counts.links (line_texts letter_q (picked tables.now.reading.counts.links (is_in half.now.links) (link_row tables.now.links.now rates.now half.now))) output.old output.new }
+    ensures { Put tables.now.reading.counts.links (line_texts letter_q (picked tables.now.reading.counts.links (is_in half.now.links) (half_link_row tables.now.links.now rates.now half.now))) output.old output.new }
 {
     output.put_rows(
         b'Q',
@@ -144,7 +144,7 @@ fn movement_kept(j: usize, movement: Movement, half: &HalfTables) -> Option<Move
 // Puts the `M` lines of the movements inside the half.
 fn put_movements(tables: &NetworkTables, half: &HalfTables, output: &mut Output)
     requires { MovementsAsked tables.now output.old }
-    ensures { Put tables.now.reading.counts.movements (line_texts letter_m (picked tables.now.reading.counts.movements (is_in half.now.movements) (movement_row tables.now.movements.now half.now))) output.old output.new }
+    ensures { Put tables.now.reading.counts.movements (line_texts letter_m (picked tables.now.reading.counts.movements (is_in half.now.movements) (half_movement_row tables.now.movements.now half.now))) output.old output.new }
 {
     output.put_rows(
         b'M',
