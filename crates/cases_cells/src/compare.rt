@@ -4,8 +4,8 @@ ghost use Rattle.text_reader.specs.Lines.{lines};
 ghost use Rattle.cells_call.specs.Call.{run_cells, final_volumes};
 ghost use Rattle.cases_cells.specs.Compare.{as_stored};
 
-use crate::told;
-use crate::told::Told;
+use crate::reported;
+use crate::reported::Reported;
 use base_search::Reason;
 use cases_files::agreement::agrees;
 use cases_files::reading::{Malformed, read_each, read_text, read_u32};
@@ -21,14 +21,14 @@ fn judge(
     rt: &impl Print,
     number: u32,
     corridor: &[u8],
-    stored: Told,
+    stored: Reported,
     volumes: &[u32; MAX_CELLS],
 ) -> bool
     ensures { result ≡ as_stored (run_cells (lines corridor.now)) (final_volumes (lines corridor.now)) stored volumes.now }
 {
     let answer = cells_call::run_cells(corridor);
-    let given = Told::from(answer);
-    let left = told::volumes_of(answer);
+    let given = Reported::from(answer);
+    let left = reported::volumes_in(answer);
     agrees(rt, number, &given, &stored, left == *volumes)
 }
 
@@ -37,7 +37,7 @@ pub fn run_case(rt: &impl Print, file: &mut impl Read, number: u32) -> Result<us
     let mut text = [0; ROOM];
     let mut volumes = [0; MAX_CELLS];
     let corridor = read_text(file, &mut text)?;
-    let stored = told::read_told(file)?;
+    let stored = reported::read_reported(file)?;
     read_each(file, &mut volumes, read_u32)?;
     let same = judge(rt, number, corridor, stored, &volumes);
     let numbers = [Reason::CorridorLine.number(), Reason::CellStart.number()];

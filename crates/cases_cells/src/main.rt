@@ -4,7 +4,7 @@
 #![tactic(auto)]
 
 mod compare;
-mod told;
+mod reported;
 
 use cases_files::files;
 use cases_files::files::Form;

@@ -2,7 +2,7 @@
 ghost use Rattle.std.specs.Prelude.{◌≡◌, IfOk};
 ghost use Rattle.std.specs.Io.KnownBytes.{Consumes};
 ghost use Rattle.cells_call.specs.Call.{volumes_in};
-ghost use Rattle.cases_cells.specs.Told.{told_of, told_bytes};
+ghost use Rattle.cases_cells.specs.Reported.{reported_of, reported_bytes};
 
 use base_search::Refusal;
 use cases_files::reading::{Malformed, read_u32, read_u64};
@@ -23,10 +23,10 @@ pub struct Flows {
 
 // The answer but for the volumes.
 #[derive(Clone, Copy, PartialEq)]
-pub struct Told(pub Result<Flows, Refusal>);
+pub struct Reported(pub Result<Flows, Refusal>);
 
 // Each number behind a tab, those of a refusal first; 0 where there is none.
-impl Display for Told {
+impl Display for Reported {
     fn fmt<W: fmt::Write>(&self, f: &mut fmt::Formatter<W>) -> fmt::Result {
         let flows = self.0.unwrap_or_default();
         write!(f, "{}", Columns(self.0.err()))?;
@@ -39,11 +39,11 @@ impl Display for Told {
 }
 
 // What the library answers.
-impl From<Result<CellsRun, Refusal>> for Told {
-    ghost from_gives = { λ answer told. told ≡ told_of answer };
+impl From<Result<CellsRun, Refusal>> for Reported {
+    ghost from_gives = { λ answer reported. reported ≡ reported_of answer };
 
-    fn from(answer: Result<CellsRun, Refusal>) -> Told {
-        Told(answer.map(|run| Flows {
+    fn from(answer: Result<CellsRun, Refusal>) -> Reported {
+        Reported(answer.map(|run| Flows {
             cells: run.cells,
             flow_in: run.flow_in,
             flow_out: run.flow_out,
@@ -52,7 +52,7 @@ impl From<Result<CellsRun, Refusal>> for Told {
 }
 
 // The volumes of what the library answers; of a refusal, all 0.
-pub fn volumes_of(answer: Result<CellsRun, Refusal>) -> [u32; MAX_CELLS]
+pub fn volumes_in(answer: Result<CellsRun, Refusal>) -> [u32; MAX_CELLS]
     ensures { result ≡ volumes_in answer }
 {
     match answer {
@@ -62,8 +62,8 @@ pub fn volumes_of(answer: Result<CellsRun, Refusal>) -> [u32; MAX_CELLS]
 }
 
 // The answer that was stored. A refusal has no flows.
-pub fn read_told<R: Read>(file: &mut R) -> Result<Told, Malformed>
-    ensures { IfOk result (λ told. Consumes (R.remaining file.old) (R.remaining file.new) (told_bytes told)) }
+pub fn read_reported<R: Read>(file: &mut R) -> Result<Reported, Malformed>
+    ensures { IfOk result (λ reported. Consumes (R.remaining file.old) (R.remaining file.new) (reported_bytes reported)) }
 {
     let refusal = read_refusal(file)?;
     let flows = Flows {
@@ -72,8 +72,8 @@ pub fn read_told<R: Read>(file: &mut R) -> Result<Told, Malformed>
         flow_out: read_u64(file)?,
     };
     match refusal {
-        None => Ok(Told(Ok(flows))),
-        Some(refusal) if flows == Flows::default() => Ok(Told(Err(refusal))),
+        None => Ok(Reported(Ok(flows))),
+        Some(refusal) if flows == Flows::default() => Ok(Reported(Err(refusal))),
         Some(_) => Err(Malformed),
     }
 }
