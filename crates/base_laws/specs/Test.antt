@@ -1,4 +1,5 @@
--- Both, and either. They are shut, unlike `◌&&◌` and `◌||◌`, so that a proof can read the parts off a test.
+-- Conjunction and disjunction. Unlike `◌&&◌` and `◌||◌` they do not unfold by themselves, so that a proof can take a
+-- test apart.
 use Rattle.std.specs.Prelude.{Bool, true, ◌&&◌, ◌||◌, ℕ, zero, suc, leb}
 
 infixl 35 ◌and◌

@@ -5,7 +5,7 @@ use Rattle.base_search.specs.Checks.{refusal, first_from, checked, verdict, Hold
 use Rattle.base_search.proofs.Laws.{first-same, first-stop, first_passes, checked-passes, checked_refused}
 use Rattle.std.specs.Prelude.{Ok, Err}
 
--- one item of the rule at a place, and the rule over its items, told at a line
+-- one item of the rule at a place, and the rule over its items, reported at a line
 abbrev item_verdict : ℕ → List Rule → ℕ → ℕ → Verdict
 item_verdict line rules place item = checked ((rule_at rules place).holds item) (rule_at rules place).number line (suc item)
 

@@ -2,7 +2,7 @@
 use Rattle.std.specs.Prelude.{◌≡◌, Result, Ok, Err, Bool, true, false, ◌⊎◌, List, ℕ, zero, suc, ◌+◌, ◌<◌, length, get_or}
 use Rattle.base_search.specs.declared.Refusal.{Refusal}
 
--- What checks say: all pass, or the refusal of the first that does not.
+-- The verdict on checks: all pass, or the refusal of the first that does not.
 abbrev pub Verdict : Type 0
 Verdict = Result (Unit {0}) Refusal
 

@@ -1,12 +1,12 @@
-// A refusal, by which checks in order tell the first that is broken. The definition stands in specs/; proofs/ has its
-// laws, by which the checks of the crates above and the labelled search of step_check are proved.
+// Refusals, and checks in order: the verdict is the refusal of the first check that is broken. The definition is in
+// specs/, its laws are in proofs/: by them the calls and the labelled search of step_check are proved.
 #![tactic(auto)]
 
 ghost use Rattle.std.specs.Prelude.{◌≡◌, ◌<◌};
 ghost use Rattle.base_search.specs.Checks.{refusal, checked};
 ghost use Rattle.base_search.specs.Reasons.{reason_number};
 
-// Why something is refused: the check that is broken. Those of a step's rules stand in the crates of the rules.
+// Why something is refused: the check that is broken. The rules of a step have enums of their own, in their crates.
 #[derive(Clone, Copy, PartialEq, Eq)]
 pub enum Reason {
     NetworkForm,
@@ -40,7 +40,8 @@ pub enum Reason {
 }
 
 impl Reason {
-    // Its number in answers. Not by discriminants: the wrong program that gives two reasons one number would not compile.
+    // The number in answers. A `match`, not discriminants: with these, the wrong program that gives two reasons one
+    // number would not compile, and so would test no proof.
     pub fn number(self) -> u32
         ensures { result ≡ reason_number self }
     {
@@ -76,7 +77,7 @@ impl Reason {
         }
     }
 
-    // The refusal for it, with the line and the item that it names.
+    // The refusal for this reason, at a line and an item.
     pub fn refusal(self, line: usize, item: usize) -> Refusal
         requires { (line < 4294967296) × (item < 4294967296) }
         ensures { result ≡ refusal (reason_number self) line item }
@@ -85,9 +86,10 @@ impl Reason {
     }
 }
 
-// A refusal: the number of the broken check, and the line and the item that it names, 0 where it names none. These are counted as places in tables are, and told
-// in 32 bits, so that whoever makes one says that they fit. The number is no `Reason`: C callers and stored cases read it as a number, and a step's rules, whose
-// enums stand in crates above, tell theirs by it too.
+// A refusal: the number of the broken check, and the line and the item that it names, 0 for none. Line and item come
+// from places in tables and have 32 bits in answers: `new` requires that they fit. The number is not a `Reason`: C
+// callers and stored cases read a number, and the rules of a step, whose enums are in crates that use this one, have
+// numbers too.
 #[derive(Clone, Copy, PartialEq, Eq)]
 pub struct Refusal {
     pub number: u32,
@@ -108,7 +110,7 @@ impl Refusal {
     }
 }
 
-// Passes where a check holds; else the refusal for this reason, with this line and item.
+// Ok if a check holds; otherwise the refusal for this reason at this line and item.
 pub fn checked(holds: bool, reason: Reason, line: usize, item: usize) -> Result<(), Refusal>
     requires { (line < 4294967296) × (item < 4294967296) }
     ensures { result ≡ checked holds (reason_number reason) line item }

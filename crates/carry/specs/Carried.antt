@@ -1,4 +1,4 @@
--- What the writing of a carried network asks and promises.
+-- What the functions that write a carried network require and promise.
 use Rattle.std.specs.Prelude.{ℕ, suc, ◌*◌, ◌≤◌, ◌<◌, ◌≡◌, List, length, get_or, Result}
 use Rattle.text_reader.specs.Lines.{Line, lines}
 use Rattle.model.specs.declared.Signal.{Signal}

@@ -1,4 +1,4 @@
--- What carrying on from a boundary asks and promises of a network that has passed.
+-- What carrying on from a boundary requires and promises of a network that has passed.
 use Rattle.std.specs.Prelude.{ℕ, suc, ◌*◌, ◌≤◌, ◌<◌, ◌≡◌, List, length, Result}
 use Rattle.text_reader.specs.Lines.{lines}
 use Rattle.model.specs.Network.{link_count, step_count}

@@ -1,4 +1,4 @@
--- The lines of the carried network by the program's tables, and what the functions that put them ask and promise.
+-- The lines of the carried network by the program's tables, and what the functions that put them require and promise.
 use Rattle.std.specs.Prelude.{ℕ, suc, ◌+◌, ◌*◌, ◌-◌, ◌≤◌, ◌<◌, ◌≡◌, true, List, [], ◌∷◌, length, get_or}
 use Rattle.text_reader.specs.Lines.{lines}
 use Rattle.text_reader.specs.Reading.{Starts}
@@ -32,7 +32,7 @@ unfoldable pub volumes_in : List ℕ → ℕ → ℕ → ℕ → List ℕ
 volumes_in ledger links n i =
     (entered_at ledger links (n + 1) i - entered_at ledger links n i) ∷ (left_at ledger links (n + 1) i - left_at ledger links n i) ∷ []
 
--- ---- asked and promised
+-- ---- required and promised
 -- lines that have passed were put as they are, the first of them line `first`
 abbrev pub Copied : List ℕ → PassedLines → Output → Output → Type 0
 Copied text passed old new =

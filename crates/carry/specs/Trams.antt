@@ -1,10 +1,10 @@
--- The trams that are left behind a boundary.
+-- What is left of the trams after a boundary.
 use Rattle.std.specs.Prelude.{ℕ, suc, ◌-◌, max, cond, List, [], ◌∷◌, ltb}
 use Rattle.network_tables.specs.declared.Tram.{Tram}
 use Rattle.network_tables.specs.Fields.{tram_at}
 use Rattle.network_writer.specs.Texts.{rows_to}
 
--- the numbers of what is left of a tram behind boundary b: one line, or none
+-- the numbers of what is left of a tram after boundary b: one line, or none
 unfoldable pub left_of : ℕ → Tram → List (List ℕ)
 left_of b tram =
     cond (ltb b tram.last_step)

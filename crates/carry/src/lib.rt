@@ -1,5 +1,5 @@
-// Carrying on from a boundary (T-09): the call `carry_on`. The text is written twice: first where there is no room, which measures
-// it, then into the buffer, if all of it fits.
+// Carrying on from a boundary (T-09): the call `carry_on`. The text is written twice: first where there is no room,
+// which measures it, then into the buffer if it fits.
 #![tactic(auto)]
 
 ghost use Rattle.std.specs.Prelude.{◌≡◌, ◌∷◌, ◌<◌, ◌≤◌, length, get_or, map, option_to_list};
@@ -41,7 +41,8 @@ struct Standing<'a> {
     pub ledger: &'a [u32],
 }
 
-// Lines of a network that have passed: where the first starts, their letter, how many numbers each has, and how many they are.
+// Lines of a network that have passed: where the first starts, their letter, how many numbers each has, and how many
+// lines there are.
 #[derive(Clone, Copy)]
 struct PassedLines {
     at: usize,
@@ -51,7 +52,7 @@ struct PassedLines {
 }
 
 impl PassedLines {
-    // Puts them as they are.
+    // Puts these lines, unchanged.
     fn put(self, text: &[u8], output: &mut Output)
         requires { (self.width ≤ past_size) × Early self.count output.old }
         ensures { Copied text.now self output.old output.new }
@@ -66,7 +67,8 @@ impl PassedLines {
     }
 }
 
-// The numbers of the `N` line. Not a `From`, which may ask nothing, where the casts ask for the counts. No count is too large for a field, so that no cast loses anything.
+// The numbers of the `N` line. Not a `From`: that can have no precondition, and the casts need one on the counts. Each
+// count fits 32 bits, so no cast loses anything.
 #[tactic(auto, unfolding(crate::specs::Rows::count_row))]
 fn count_row(counts: Counts, boundary: usize, trams: usize) -> [u32; COUNT_FIELDS]
     requires { Few counts × (boundary ≤ counts.steps) × (trams ≤ max_trams) }
@@ -82,7 +84,7 @@ fn count_row(counts: Counts, boundary: usize, trams: usize) -> [u32; COUNT_FIELD
     ]
 }
 
-// What is left of a tram behind a boundary: its steps are counted from there.
+// What is left of a tram after a boundary, with its steps counted from there; none if all its steps are over.
 fn rest_of(tram: Tram, boundary: u32) -> Option<Tram>
     ensures { map tram_row (option_to_list result) ≡ left_of boundary tram }
 {
@@ -96,8 +98,8 @@ fn rest_of(tram: Tram, boundary: u32) -> Option<Tram>
     })
 }
 
-// Puts the `G` lines of signals: each has numbers as far as its phases go. The two lines of its turn stand in split_text too: a method of `Output` would say
-// the signal's phases and numbers in a contract longer than they are.
+// Puts the `G` lines of signals; how long a line is depends on the signal's phases. split_text has the same loop: a
+// method of `Output` would need a contract longer than the loop.
 fn put_signals(signals: &[Signal], output: &mut Output)
     requires { SignalsAsked signals.now output.old }
     ensures { Put (length signals.now) (record_texts letter_g (length signals.now) (λ k. signal_numbers (signal_at signals.now k))) output.old output.new }
@@ -108,8 +110,8 @@ fn put_signals(signals: &[Signal], output: &mut Output)
     }
 }
 
-// What entered each link in step n, and left it, by the rows of the ledger before and after the step, goes behind the step's length. By index:
-// it asks the ledger, at two rows, and the row at two places, by one.
+// Fills a row, after the step's length, with what entered and what left each link in step n: the ledger's row after the
+// step minus the row before it. By index: each turn reads two rows and writes two places.
 fn fill_volumes(ledger: &[u32], links: usize, n: usize, row: &mut [u32])
     requires { VolumesAsked ledger.now links n row.old }
     ensures { row.new ≡ over (get_or row.old 0 0 ∷ joined links (volumes_in ledger.now links n)) row.old }
@@ -122,7 +124,8 @@ fn fill_volumes(ledger: &[u32], links: usize, n: usize, row: &mut [u32])
     }
 }
 
-// Puts the steps before the boundary as `H` lines: their lengths by their `S` lines, and their volumes by the ledger. Returns where the next `S` line starts.
+// Puts the steps before the boundary as `H` lines: their lengths are in their `S` lines, their volumes in the ledger.
+// Returns where the next `S` line starts.
 fn put_steps(tables: &NetworkTables, standing: &Standing, output: &mut Output) -> usize
     requires { StepsPutAsked tables.now standing.now output.old }
     ensures { StepsPut tables.now standing.now output.old result output.new }
@@ -177,8 +180,8 @@ fn put_network(tables: &NetworkTables, trams: &[Tram], standing: &Standing, out:
     output.at
 }
 
-// Writes the network carried on from a boundary after a plan whose steps before it have passed, by how it stands there: 32 for a buffer that is too short, which is
-// left untouched.
+// Writes the network text from a boundary on, when the steps before it have passed. Refusal 32 if the buffer is too
+// short, which is then unchanged.
 fn write_carried(
     tables: &NetworkTables,
     standing: &Standing,
@@ -193,8 +196,9 @@ fn write_carried(
     network_writer::write_measured(Reason::CarriedRoom, carried, put)
 }
 
-// Takes the plan's steps up to the boundary, and writes the text from there on: 9 for a line behind them, and 32 last. Apart from `carry_from`, of the same
-// parameters: in one function each of the four facts behind `take_steps` would show again what `StepsAsked` says once.
+// Takes the plan's steps up to the boundary, and writes the text from there on. Refusals: 9 if another line follows,
+// and 32 last. A function of its own: inside `carry_from`, each of the four facts after `take_steps` would prove again
+// what `StepsAsked` says once.
 fn carry_steps(
     tables: &NetworkTables,
     boundary: usize,
@@ -219,7 +223,7 @@ fn carry_steps(
     write_carried(tables, &standing, carried)
 }
 
-// Carries a network that has passed on from a boundary: 31, then 8 for as many steps, then the steps.
+// Carries on a network that has passed: refusal 31, then 8 for a ledger of that many steps, then the steps.
 fn carry_from(
     tables: &NetworkTables,
     boundary: usize,
@@ -256,7 +260,7 @@ pub fn carry_on(
     let mut start = Start::default();
     let mut room = Room::default();
     let tables = network::read_start(network, &mut start, &mut room)?;
-    // Every `u32` fits a `usize`: the cast loses nothing.
+    // Each `u32` fits a `usize`: the cast loses nothing.
     carry_from(
         &tables,
         boundary as usize,

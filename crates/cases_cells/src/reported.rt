@@ -13,7 +13,7 @@ use std::fmt;
 use std::fmt::Display;
 use std::io::Read;
 
-// What of a run is stored and printed in numbers: how many cells there are, flow in and flow out.
+// The numbers of a run that are stored and printed: how many cells, flow in and flow out.
 #[derive(Clone, Copy, PartialEq, Default)]
 pub struct Flows {
     pub cells: u32,
@@ -21,7 +21,7 @@ pub struct Flows {
     pub flow_out: u64,
 }
 
-// The answer but for the volumes.
+// The answer without the volumes.
 #[derive(Clone, Copy, PartialEq)]
 pub struct Reported(pub Result<Flows, Refusal>);
 
@@ -38,7 +38,7 @@ impl Display for Reported {
     }
 }
 
-// What the library answers.
+// The library's answer in this form.
 impl From<Result<CellsRun, Refusal>> for Reported {
     ghost from_gives = { λ answer reported. reported ≡ reported_of answer };
 
@@ -51,7 +51,7 @@ impl From<Result<CellsRun, Refusal>> for Reported {
     }
 }
 
-// The volumes of what the library answers; of a refusal, all 0.
+// The volumes of an answer; all 0 if it is a refusal.
 pub fn volumes_in(answer: Result<CellsRun, Refusal>) -> [u32; MAX_CELLS]
     ensures { result ≡ volumes_in answer }
 {
@@ -61,7 +61,7 @@ pub fn volumes_in(answer: Result<CellsRun, Refusal>) -> [u32; MAX_CELLS]
     }
 }
 
-// The answer that was stored. A refusal has no flows.
+// Reads the stored answer. A refusal has no flows.
 pub fn read_reported<R: Read>(file: &mut R) -> Result<Reported, Malformed>
     ensures { IfOk result (λ reported. Consumes (R.remaining file.old) (R.remaining file.new) (reported_bytes reported)) }
 {

@@ -5,7 +5,8 @@ use std::fs::File;
 use std::io::Read;
 use std::rt::Files;
 
-// What the files of a program begin with: a mark, the version of their form, and how many numbers are passed over behind the number of cases.
+// How the files of a program begin: a mark, the version of their form, and how many numbers to skip after the number of
+// cases.
 #[derive(Clone, Copy)]
 pub struct Form {
     pub mark: [u8; 8],
@@ -16,8 +17,9 @@ pub struct Form {
 // The files of every program: the stored cases, and some with a wrong answer on purpose.
 pub const PATHS: [&str; 2] = ["cases.bin", "wrong_answer.bin"];
 
-// Runs the files of a program, and prints how many cases there are at each place, under these names. The counts are lent: an array of references whose
-// length is a parameter gets no proof. Here and below `run_case` asks nothing (`IsAlwaysCallable`), since nothing is known of what a file gives.
+// Runs the files of a program, and prints each counter under its name. The counts are lent: the prover does not take an
+// array of references whose length is a parameter. Here and below `run_case` has no precondition (`IsAlwaysCallable`),
+// since nothing is known of what a file holds.
 pub fn run<R: Files + Print, F: Fn(&mut R::File, u32) -> Result<usize, Malformed>>(
     rt: &R,
     form: Form,
@@ -33,8 +35,8 @@ pub fn run<R: Files + Print, F: Fn(&mut R::File, u32) -> Result<usize, Malformed
     print_counts(rt, names, counts);
 }
 
-// Runs each case of a file, by its number from 0, and counts it at the place that it gives. Prints the file's name and how many cases it has; that it is
-// malformed where a case is, or where bytes are left. Nothing is done about an output that takes no more.
+// Runs each case of a file, numbered from 0, and counts it where `run_case` says. Prints the file's name and how many
+// cases it has, or that it is malformed: a case is, or bytes are left over. A failed write is ignored.
 pub fn run_file<R: Files + Print, F: FnMut(&mut R::File, u32) -> Result<usize, Malformed>>(
     rt: &R,
     path: &str,
@@ -50,7 +52,7 @@ pub fn run_file<R: Files + Print, F: FnMut(&mut R::File, u32) -> Result<usize, M
     };
 }
 
-// Runs and counts each case of a file: how many there are.
+// Runs and counts each case of a file; returns how many there are.
 fn run_cases<R: Files, F: FnMut(&mut R::File, u32) -> Result<usize, Malformed>>(
     files: &R,
     path: &str,
@@ -71,7 +73,7 @@ fn run_cases<R: Files, F: FnMut(&mut R::File, u32) -> Result<usize, Malformed>>(
     Ok(count)
 }
 
-// Reads what a file begins with: how many cases follow.
+// Reads the beginning of a file; returns how many cases follow.
 fn read_header(file: &mut impl Read, form: Form) -> Result<u32, Malformed> {
     if read_array(file)? != form.mark || read_u32(file)? != form.version {
         return Err(Malformed);

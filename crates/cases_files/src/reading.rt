@@ -26,14 +26,12 @@ pub fn read_array<R: Read, const N: usize>(file: &mut R) -> Result<[u8; N], Malf
     Ok(bytes)
 }
 
-// A number of four bytes.
 pub fn read_u32<R: Read>(file: &mut R) -> Result<u32, Malformed>
     ensures { IfOk result (λ n. Consumes (R.remaining file.old) (R.remaining file.new) (to_le_bytes w32 n)) }
 {
     Ok(u32::from_le_bytes(read_array(file)?))
 }
 
-// A number of eight bytes.
 pub fn read_u64<R: Read>(file: &mut R) -> Result<u64, Malformed>
     ensures { IfOk result (λ n. Consumes (R.remaining file.old) (R.remaining file.new) (to_le_bytes w64 n)) }
 {
@@ -55,7 +53,7 @@ pub fn read_each<R: Read, T: Drop, F: Fn(&mut R) -> Result<T, Malformed>>(
     Ok(())
 }
 
-// A text behind its length, read to the start of a room that must be large enough.
+// Reads a length and a text of that length, to the start of a room that must be large enough.
 pub fn read_text<'a, R: Read>(file: &mut R, room: &'a mut [u8]) -> Result<&'a [u8], Malformed>
     ensures { IfOk result (λ text. Consumes (R.remaining file.old) (R.remaining file.new) (to_le_bytes w32 (length text.now) ++ text.now)) }
 {

@@ -9,14 +9,14 @@ use std::fmt;
 use std::fmt::Display;
 use std::io::Read;
 
-// What is stored and printed where nothing is refused.
+// What is stored and printed if nothing is refused.
 const NOTHING: Refusal = Refusal {
     number: 0,
     line: 0,
     item: 0,
 };
 
-// A refusal; none where nothing is refused.
+// Reads a refusal; none if nothing is refused.
 pub fn read_refusal<R: Read>(file: &mut R) -> Result<Option<Refusal>, Malformed>
     ensures { IfOk result (λ stored. Consumes (R.remaining file.old) (R.remaining file.new) (stored_bytes stored)) }
 {
@@ -32,7 +32,7 @@ pub fn read_refusal<R: Read>(file: &mut R) -> Result<Option<Refusal>, Malformed>
     }
 }
 
-// What a call refuses, as it is compared and printed, each number behind a tab.
+// A call's refusal as it is compared and printed: each number after a tab.
 #[derive(Clone, Copy, PartialEq)]
 pub struct Columns(pub Option<Refusal>);
 

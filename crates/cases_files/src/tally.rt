@@ -5,17 +5,17 @@ ghost use Rattle.cases_files.specs.Tally.{place_of};
 
 use base_search::Refusal;
 
-// Counts one more at a place. There are fewer than 2^32 cases, so that no count wraps.
+// Counts one case. There are fewer than 2^32 cases, so no count wraps.
 pub fn add_one(counts: &mut [u64], place: usize)
     ensures { place < length counts.old → counts.new ≡ slice_set counts.old place ((slice_index counts.old place + 1) % 2 ^ 64) }
 {
-    // Not by `get_mut`: a proof knows no element that is written through it.
+    // Not `get_mut`: a proof knows nothing of an element that is written through it.
     if place < counts.len() {
         counts[place] = counts[place].wrapping_add(1);
     }
 }
 
-// The index of a number among these; as many as they are, where it is none of them.
+// The index of a number in a list; the list's length if it is not there.
 fn index_of(numbers: &[u32], number: u32) -> usize
     ensures within { result ≤ length numbers.now }
     ensures value { result ≡ position_or_len (λ known. known == number) numbers.now }
@@ -24,8 +24,8 @@ fn index_of(numbers: &[u32], number: u32) -> usize
     index.unwrap_or(numbers.len())
 }
 
-// The place of a case that agreed: the first where nothing is refused, else that of its refusal's number, behind it. The place of one that differed, or
-// was refused with another number, is behind them all.
+// Which counter a case has: the first if it agrees and nothing is refused; that of its refusal's number if it agrees;
+// the last if it differs or was refused with another number.
 pub fn place_of(numbers: &[u32], refusal: Option<Refusal>, same: bool) -> usize
     ensures { result ≡ place_of numbers.now refusal same }
 {
@@ -37,7 +37,7 @@ pub fn place_of(numbers: &[u32], refusal: Option<Refusal>, same: bool) -> usize
     }
 }
 
-// Prints the counts, a line each. Nothing is done about an output that takes no more, and no contract can say what it takes.
+// Prints the counts, a line each. A failed write is ignored; no contract can say what an output takes.
 pub fn print_counts(rt: &impl Print, names: &[&str], counts: &[u64]) {
     for (name, count) in names.iter().zip(counts) {
         let _ = println!(rt; "{name}\t{count}");

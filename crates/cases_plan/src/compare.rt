@@ -19,14 +19,14 @@ const LEDGER_ROOM: usize = 5888;
 
 const BUFFER_ROOM: usize = 102400;
 
-// The greatest lengths that the header names are not needed, as each length is held to its room.
+// The four greatest lengths after the number of cases are skipped: each length is compared with its room instead.
 const FORM: Form = Form {
     mark: *b"PLANCASE",
     version: 4,
     passed_over: 4,
 };
 
-// What a case may go on with: the two texts and the given numbers of the ledger.
+// What a case may take over from the case before: the two texts and the given numbers of the ledger.
 #[derive(Drop)]
 struct Before<'a> {
     network: Kept<'a, u8>,
@@ -43,7 +43,7 @@ struct Given<'a> {
     buffer: Filled,
 }
 
-// Judges a case on ledgers and a buffer that are what they are before the call.
+// Fills the ledgers and the buffer as the case gives them, and judges the case.
 fn judge_filled(
     rt: &impl Print,
     texts: Texts<'_>,
@@ -64,7 +64,8 @@ fn judge_filled(
     Ok(judge(rt, texts, case, ledger, second_ledger, buffer))
 }
 
-// Reads one case and judges it: the place at which it is counted. One whose boundary or link no call takes is passed over.
+// Reads and judges one case; returns where it is counted. A case whose boundary or link does not fit a call is passed
+// over.
 fn run_case<R: Read>(
     rt: &impl Print,
     file: &mut R,

@@ -1,4 +1,4 @@
-// What a case may go on with from the case before.
+// What a case may take over from the case before.
 ghost use Rattle.std.specs.Prelude.{◌≡◌, None, IfOk};
 ghost use Rattle.cases_plan.specs.Kept.{kept_in, GoesOn};
 
@@ -24,7 +24,7 @@ impl<'a, T> Kept<'a, T> {
         Kept { room, length: None }
     }
 
-    // Reads by a step what a case gives behind its length, or goes on with what the case before had.
+    // Reads what a case gives, after its length, by a function; or keeps what the case before had.
     pub fn read<R: Read, F: FnOnce(&mut R, &mut [T]) -> Result<(), Malformed>>(
         &mut self,
         file: &mut R,

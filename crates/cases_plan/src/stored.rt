@@ -41,7 +41,7 @@ impl Display for Told {
 }
 
 impl Asked {
-    // The question of it; none where the boundary or the link is greater than any that a call takes.
+    // The question; none if the boundary or the link is greater than a call can take.
     pub fn question(self) -> Option<Question>
         ensures { IsQuestionOf self result }
     {
@@ -70,7 +70,6 @@ pub fn read_filled<R: Read>(file: &mut R) -> Result<Filled, Malformed>
     })
 }
 
-// Reads what a case asks.
 pub fn read_asked<R: Read>(file: &mut R) -> Result<Asked, Malformed>
     ensures { IfOk result (λ asked. Consumes (R.remaining file.old) (R.remaining file.new) (asked_bytes asked)) }
 {

@@ -3,18 +3,18 @@ use crate::call::{CALLS, Call};
 use crate::outcome::{Kind, Outcome};
 use std::fmt::Display;
 
-// How many answers a call's cases are counted by: accepted, and each refusal's number.
+// How many counters each call has: accepted, and each refusal's number.
 const ANSWERS: usize = 36;
 
-// The counts: for each call, the cases that agreed, by answer; then these two. A flat table: `files::run_file` counts at one place for every program, so that
-// rows would only be joined for it.
+// The counts: for each call, the cases that agreed, by answer; then these two. A flat table, since `files::run_file`
+// counts by one index.
 pub const DIFFERENT: usize = CALLS.len() * ANSWERS;
 
 pub const PASSED_OVER: usize = DIFFERENT + 1;
 
 pub const COUNTERS: usize = DIFFERENT + 2;
 
-// The place of the cases of a call that gave an outcome. A refusal number above 35 has none.
+// Which counter a call's outcome has. A refusal number above 35 has none, and counts as different.
 pub fn place_of(call: Call, outcome: Outcome) -> usize {
     let is_refused = outcome.kind == Kind::Refused as u32;
     let number = if is_refused { outcome.first } else { 0 };
@@ -39,8 +39,8 @@ fn print_line(rt: &impl Print, name: impl Display + Drop, counts: &[u64; COUNTER
     let _ = println!(rt);
 }
 
-// The table of the cases that agreed, and how many were passed over and differ. Nothing is done about an output that takes no more, and no contract can
-// say what it takes.
+// The table of the cases that agreed, and how many were passed over and differ. A failed write is ignored; no contract
+// can say what an output takes.
 pub fn print_table(rt: &impl Print, counts: &[u64; COUNTERS]) {
     let _ = print!(rt; "answer");
     for call in CALLS {

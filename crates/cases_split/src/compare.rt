@@ -15,7 +15,8 @@ use std::io::Read;
 // Room for every text and buffer of the stored cases.
 const ROOM: usize = 8192;
 
-// What the cases are counted by: written, refused for the network itself, or with one of the numbers of the call; and those that differ.
+// The names of the counters: written, refused for the network itself, each other number of the call, and cases that
+// differ.
 pub const PLACES: [&str; 7] = ["written", "network", "9", "40", "41", "42", "different"];
 
 const DIFFERENT: usize = PLACES.len() - 1;
@@ -28,7 +29,8 @@ struct Case<'a> {
     told: Buffers<'a>,
 }
 
-// The place of the cases that were refused like this, or written. Not by `tally::place_of`: the network's own refusals have one place together.
+// Which counter a refusal has, or a split that was written. Not `tally::place_of`: the network's own refusals share one
+// counter.
 fn place_of(refusal: Option<Refusal>) -> usize {
     match refusal.map(|refusal| refusal.number) {
         None => 0,
@@ -40,7 +42,8 @@ fn place_of(refusal: Option<Refusal>) -> usize {
     }
 }
 
-// Whether the answer, and every byte of the four buffers after the call, are what was stored. Where they are not, the refusals are printed.
+// Whether the answer, and every byte of the four buffers after the call, are as stored. If not, the refusals are
+// printed.
 fn is_as_stored(
     rt: &impl Print,
     answer: Result<Lengths, Refusal>,
@@ -57,7 +60,8 @@ fn is_as_stored(
     agrees(rt, stored.number, &given, &expected, is_left)
 }
 
-// Splits by the library: whether all is as stored. The four buffers stand on their own: a `&mut` that is taken out of a struct and lent gets no proof.
+// Splits by the library: whether all is as stored. The four buffers are separate variables: the prover does not take a
+// `&mut` that is taken out of a struct and lent.
 fn judge(
     rt: &impl Print,
     case: Case<'_>,
@@ -105,7 +109,7 @@ fn judge_filled(
     ))
 }
 
-// Reads one case and judges it: the place at which it is counted.
+// Reads and judges one case; returns where it is counted.
 pub fn run_case(rt: &impl Print, file: &mut impl Read, number: u32) -> Result<usize, Malformed> {
     let mut network = [0; ROOM];
     let mut plan = [0; ROOM];

@@ -24,8 +24,8 @@ pub struct Stored {
     pub answer: Result<Lengths, Refusal>,
 }
 
-// The four buffers that a split leaves, or what was stored of them, a room for each. Not one `Four<T>` with `Lengths`: `Four<&[u8]>` and `Four<usize>` would
-// stand where names tell them apart.
+// The four buffers after a split, or what was stored of them, a room for each. `Lengths` is a type of its own: the
+// names say more than one `Four<T>` would.
 #[derive(Clone, Copy)]
 pub struct Buffers<'a> {
     pub network_1: &'a [u8],
@@ -34,7 +34,7 @@ pub struct Buffers<'a> {
     pub plan_2: &'a [u8],
 }
 
-// Whether each buffer has, and for no more than its room, what was stored of it.
+// Whether each buffer holds what was stored of it, and is no longer than the room of that.
 pub fn are_as_told(left: Buffers<'_>, told: Buffers<'_>) -> bool
     ensures { result ≡ left_as_told (buffers left.entry.network_1.now left.entry.plan_1.now left.entry.network_2.now left.entry.plan_2.now) (buffers told.entry.network_1.now told.entry.plan_1.now told.entry.network_2.now told.entry.plan_2.now) }
 {

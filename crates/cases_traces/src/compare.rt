@@ -25,7 +25,7 @@ struct Case<'a> {
     told: &'a [f64],
 }
 
-// Takes a step by the library: whether the answer and every place are those that were stored. Where they are not, the answers are printed.
+// Takes a step by the library: whether the answer and every place are as stored. If not, both answers are printed.
 fn judge(rt: &impl Print, number: u32, case: Case<'_>) -> bool
     ensures { let places = case.entry.places.now in let advances = case.entry.advances.now in let lines = case.entry.red_lines.now in let spacing = case.entry.spacing in
         result ≡ as_stored (step_vehicles places advances lines spacing) (places_after places advances lines spacing) case.entry.stored case.entry.told.now }
@@ -44,7 +44,7 @@ fn judge(rt: &impl Print, number: u32, case: Case<'_>) -> bool
     agrees(rt, number, &given, &stored, values::are_same(places, told))
 }
 
-// Reads one case and judges it: the place at which it is counted.
+// Reads and judges one case; returns where it is counted.
 pub fn run_case(rt: &impl Print, file: &mut impl Read, number: u32) -> Result<usize, Malformed> {
     let mut places = [0.0; ROOM];
     let mut advances = [0.0; ROOM];

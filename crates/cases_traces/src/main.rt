@@ -15,7 +15,7 @@ const FORM: Form = Form {
     passed_over: 0,
 };
 
-// What the cases are counted by: accepted, or with one of the numbers of the call; and those that differ.
+// The names of the counters: accepted, each refusal number of the call, and cases that differ.
 const PLACES: [&str; 4] = ["accepted", "38", "39", "different"];
 
 fn main(rt: HostRuntime) {

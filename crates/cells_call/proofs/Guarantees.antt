@@ -50,7 +50,7 @@ module _ (text : List Line) where
             refused-number = λ s q. let same : r ≡ s = cc in rw (← same) (refused-number cells_numbers (corridor_checks text) r corridor-numbered e);
           }
 
--- what is told of an answer are the final volumes
+-- the volumes of an answer are the final volumes
 pub volumes-told : (text : List Line) → volumes_in (run_cells text) ≡ final_volumes text
 unfolding run_cells answer_of run_of final_volumes volumes_of padded
 volumes-told text = go (verdict (corridor_checks text)) refl

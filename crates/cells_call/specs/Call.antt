@@ -46,7 +46,7 @@ answer_of (Err r) text = Err r
 unfoldable pub run_cells : List Line → Result CellsRun Refusal
 run_cells text = answer_of (verdict (corridor_checks text)) text
 
--- the volumes that are told of an answer; of a refusal, all 0
+-- the volumes of an answer; all 0 if it is a refusal
 abbrev pub volumes_in : Result CellsRun Refusal → List ℕ
 volumes_in (Ok run) = run.volumes
 volumes_in (Err r) = zeros 64

@@ -16,8 +16,8 @@ const MAX_VOLUME: u32 = 2_000_000_000;
 
 const MAX_WAVE_RATIO: u32 = 1000;
 
-// What of a corridor was read into the tables: how many cells and how many demands; and the exit limit. Counts, not slices of the tables:
-// the call goes on to change the volumes, and answers with their whole table.
+// What was read of a corridor: how many cells and demands are in the tables, and the exit limit. Counts, not slices of
+// the tables: the call then changes the volumes, and returns their whole table.
 #[derive(Clone, Copy)]
 pub struct Corridor {
     pub cells: usize,
@@ -43,7 +43,8 @@ fn valid_cell(cell: Cell, start: u32) -> bool
         && start <= MAX_VOLUME
 }
 
-// Refusals 36 and 37 of `C` line n, which is at this place: its cell, the cell's start, and the place of the next line.
+// Reads `C` line n, which is at this place: its cell, the cell's start, and the place of the next line; or refusal 36
+// or 37.
 fn cell_at(text: &[u8], at: usize, n: usize) -> Result<(Cell, u32, usize), Refusal>
     requires { n < MAX_CELLS }
     ensures ok { IfOk result (λ (cell, start, next). CellRead n text.now at cell start next) }
@@ -63,7 +64,8 @@ fn cell_at(text: &[u8], at: usize, n: usize) -> Result<(Cell, u32, usize), Refus
     Ok((cell, start, next))
 }
 
-// Refusals 36 and 37 of all `C` lines: how many there are, and the place of the next line. Cell n and its start go to place n of the tables.
+// Reads all `C` lines: how many there are, and the place of the next line; or refusal 36 or 37. Cell n and its start go
+// to place n of the tables.
 fn read_cells(
     text: &[u8],
     cells: &mut [Cell],
@@ -75,7 +77,7 @@ fn read_cells(
     ensures err { IfErr result (λ refusal. verdict (each (cell_count (lines text.now)) (cell_checks (lines text.now))) ≡ Err refusal) }
 {
     let mut place = 0;
-    // Not a `zip` with the volumes: a proof knows no element that is written through one.
+    // Not a `zip` with the volumes: a proof knows nothing of an element that is written through it.
     for (n, cell) in cells.iter_mut().enumerate() {
         if !is_cell(text, place) {
             return Ok((n, place));
@@ -87,7 +89,8 @@ fn read_cells(
     Ok((MAX_CELLS, place))
 }
 
-// Refusal 36 of a line of this letter and one volume, which is this line of the text: the volume, and the place of the next line.
+// Reads a line of this letter and one volume: the volume, and the place of the next line; or refusal 36 at this line of
+// the text.
 fn volume_at(text: &[u8], at: usize, letter: u8, line: usize) -> Result<(u32, usize), Refusal>
     requires { line < 4294967296 }
     ensures ok { IfOk result (λ (volume, next). VolumeRead letter text.now at volume next) }
@@ -101,7 +104,8 @@ fn volume_at(text: &[u8], at: usize, letter: u8, line: usize) -> Result<(u32, us
     Ok((volume, next))
 }
 
-// Refusal 36 of the `D` lines, which are all lines from `at` on, after those of the cells and the exit: how many there are.
+// Reads the `D` lines, which are all lines from `at` on, after those of the cells and the exit: how many there are; or
+// refusal 36.
 fn read_demands(text: &[u8], at: usize, cells: usize, demands: &mut [u32]) -> Result<usize, Refusal>
     requires { DemandsAsked text.now at cells demands.old }
     ensures ok { IfOk result (λ count. DemandsRead text.now count demands.old demands.new) }
@@ -119,7 +123,7 @@ fn read_demands(text: &[u8], at: usize, cells: usize, demands: &mut [u32]) -> Re
     Ok(MAX_DEMANDS)
 }
 
-// Refusals 36 and 37 of a whole text. The cells, their starts and the demands go to the beginning of the tables.
+// Reads a whole text; refusals 36 and 37. The cells, their starts and the demands go to the beginning of the tables.
 pub fn load_corridor(
     text: &[u8],
     cells: &mut [Cell],

@@ -5,7 +5,6 @@ ghost use Rattle.std.specs.Prelude.{◌≡◌, ◌≤◌, length};
 ghost use Rattle.cells_steps.specs.Steps.{chain_of, inflow, Ready};
 ghost use Rattle.cells_steps.specs.Results.{Stepped, Ran};
 
-// The most cells of a corridor, and its most demands.
 pub const MAX_CELLS: usize = 64;
 
 pub const MAX_DEMANDS: usize = 120;
@@ -19,7 +18,7 @@ pub struct Cell {
 }
 
 impl Cell {
-    // What flows into the cell, which holds `volume`, of what is `waiting` before it.
+    // What flows into the cell if it holds `volume` and `waiting` waits before it.
     fn inflow(self, waiting: u32, volume: u32) -> u32
         requires volume_bound { volume ≤ self.holding_limit }
         requires ratio_bound { self.wave_ratio ≤ 1000 }
@@ -38,8 +37,8 @@ pub struct Passed<T> {
     pub flow_out: T,
 }
 
-// One step, cell by cell. The flow out of a cell goes by its volume before the step, not by what has just entered it, and enters the next cell, or leaves by
-// the exit.
+// One step, cell by cell. The flow out of a cell depends on its volume before the step, not on what has just entered
+// it; it enters the next cell, or leaves by the exit.
 fn step_cells(cells: &[Cell], exit: u32, demand: u32, volumes: &mut [u32]) -> Passed<u32>
     requires { Ready (chain_of cells.now exit) volumes.old }
     ensures { Stepped (chain_of cells.now exit) demand volumes.old result volumes.new }

@@ -1,5 +1,5 @@
--- The program's tables of a listing's numbers, a row for each step: the numbers of its line, and a bit for each variable that was set. Not of the request: the contracts
--- between the functions speak of these.
+-- The program's tables of a listing's numbers, a row for each step: the numbers of its line, and a bit for each
+-- variable that was set. These definitions are not the request's: the contracts between the functions use them.
 use Rattle.std.specs.Prelude.{ℕ, suc, ◌+◌, ◌*◌, ◌-◌, ◌/◌, ◌%◌, ◌^◌, ◌≤◌, ◌<◌, ◌≡◌, Bool, true, false, cond, List, [], eqb, length, get_or, set, bit_or, Option, Some, None, Result, Ok, Err, ok_or, option_map}
 use Rattle.base_search.specs.declared.Refusal.{Refusal}
 use Rattle.base_search.specs.Checks.{Verdict, refusal, each, verdict}
@@ -142,7 +142,7 @@ pub record Stored (seconds : ℕ → ℕ) (listing : List Entry) (i : ℕ) (numb
   pub volumes : (v : Variable) → Placed v → has_volume v ≡ true → variable_number numbers v ≡ volume (value_before listing i v) (seconds (step_of v - 1))
   pub counted : sum max_steps (λ n. sum step_bits (bit_at (get_or seen n []))) ≡ i
 
--- ---- what the functions ask and promise
+-- ---- what the functions require and promise
 pub record TablesFit (counts : Counts) (signals : List Signal) (times : List ℕ) : Type 0 where
   pub few : Few counts
   pub signal-room : length signals ≡ max_signals

@@ -1,4 +1,4 @@
-// Plans straight from the solver (T-01): reads a listing on a network, and writes the plan text that it gives.
+// Plans straight from the solver (T-01): reads a listing for a network, and writes its plan text.
 #![tactic(auto)]
 
 ghost use Rattle.std.specs.Prelude.{◌≡◌, ◌+◌, ◌/◌, ◌^◌, ◌≤◌, ◌<◌, length, eqb, not, IfSome, IfOk};
@@ -48,7 +48,7 @@ struct Tables<'a> {
     ghost fit: { TablesFit counts signals.now times.now },
 }
 
-// The index, from 0, of what is counted from 1; none unless the number is one of 1 to `count`.
+// The index, from 0, of a number that counts from 1; none unless it is 1 to `count`.
 #[tactic(auto, using(crate::proofs::Tests::tests))]
 fn index_in(number: u64, count: usize) -> Option<usize>
     ensures value { result ≡ index_in number count }
@@ -102,7 +102,8 @@ impl Tables<'_> {
         }
     }
 
-    // What the line of this number adds to which place, by the bits of the variables that were set before; or its refusal.
+    // Which number a line adds, and at which place; or its refusal. `seen` has a bit for each variable that an earlier
+    // line has set.
     #[tactic(auto, using(crate::proofs::Tests::tests), unfolding(crate::specs::Tables::outcome, crate::specs::Listing::step_of))]
     fn judge(
         &self,
@@ -139,7 +140,7 @@ impl Tables<'_> {
     {
         let mut at = 0;
         let mut line = 0;
-        // How many lines there are shows only as they are read, so that no `for` counts them.
+        // A `while`: how many lines there are shows only as they are read.
         while at < text.len() {
             line += 1;
             let malformed = Reason::ListingLine.refusal(line, 0);
@@ -152,7 +153,7 @@ impl Tables<'_> {
         Ok(())
     }
 
-    // The listing on a network that has passed: refusals 22 to 24.
+    // Writes the plan of a listing on a network that has passed: refusals 22 to 24.
     fn write_listing(&self, listing: &[u8], out: &mut [u8]) -> Result<usize, Refusal>
         ensures { WriteGot self.now.counts self.now.signals.now self.now.times.now (entries listing.now) out.old result out.new }
     {
@@ -190,7 +191,7 @@ fn set_bit(bytes: &mut [u8], k: usize)
     bytes[k / 8] |= 1 << (k % 8);
 }
 
-// The bit of a phase in a mask. Not `step_signals::mask_of`, which is asked only of phases up to 8: this one is as a listing names it.
+// The bit of a phase in a mask. Not `step_signals::mask_of`, which takes phases up to 8 only: a listing may name any.
 #[tactic(auto, using(crate::proofs::Tests::tests, std::proofs::lemmas::Grind::common_steps))]
 fn phase_bit(phase: u64) -> u32
     ensures { result ≡ phase_bit phase }
@@ -201,8 +202,8 @@ fn phase_bit(phase: u64) -> u32
     }
 }
 
-// A rate over some seconds, in thousandths of a vehicle. 6 lets no step last more than 60 seconds, so that the product, here and in `number_of`, fits a `u64`;
-// it is asked as in step_signals.
+// The volume of a rate over some seconds, in thousandths of a vehicle. By refusal 6 a step lasts at most 60 seconds, so
+// the product, here and in `number_of`, fits a `u64`; the functions require this, as those of step_signals do.
 #[tactic(auto, using(crate::proofs::Tests::tests), unfolding(crate::specs::Listing::is_volume, crate::specs::Listing::volume))]
 fn volume_of(millionths: u64, seconds: u32) -> Option<u32>
     requires small { millionths < 10 ^ 16 }

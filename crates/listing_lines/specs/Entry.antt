@@ -17,7 +17,7 @@ unfoldable pub split_once : ℕ → List ℕ → Option (List ℕ × List ℕ)
 split_once c bs = option_map (λ i. (take i bs, drop (i + 1) bs)) (position (λ b. b == c) bs)
 
 -- ---- the decimal
--- one to `most` digits; leading zeros may stand
+-- one to `most` digits; leading zeros are allowed
 abbrev pub digits_of : ℕ → List ℕ → Option ℕ
 digits_of most bs = cond (leb 1 (length bs) && leb (length bs) most && digits bs) (Some (decimal bs)) None
 
@@ -51,8 +51,8 @@ letter_moved = 109
 abbrev pub leading_zero : List ℕ → Bool
 leading_zero bs = ltb 1 (length bs) && eqb (get_or bs 0 0) 48
 
--- a number of a name: digits without a leading zero. The listing has its own grammar: that of the records may change. One of more than ten digits names what no
--- network has, and is refused alike.
+-- a number of a name: digits without a leading zero. The listing has its own grammar, since that of the records may
+-- change. A number of more than ten digits names what no network has, and is refused too.
 abbrev pub index_of : List ℕ → Option ℕ
 index_of bs = cond (leading_zero bs) None (digits_of 10 bs)
 

@@ -20,7 +20,7 @@ pub struct Setting {
     pub millionths: u64,
 }
 
-// The bytes before and behind the first such byte.
+// The bytes before and after the first such byte.
 fn split_once(bytes: &[u8], byte: u8) -> Option<(&[u8], &[u8])>
     ensures { MatchOption result (split_once byte bytes.now ≡ None) (λ parts. split_once byte bytes.now ≡ Some (parts.0.now, parts.1.now)) }
 {
@@ -28,7 +28,7 @@ fn split_once(bytes: &[u8], byte: u8) -> Option<(&[u8], &[u8])>
     Some((&bytes[..end], &bytes[end + 1..]))
 }
 
-// A number of one to `most` digits; leading zeros may stand.
+// A number of one to `most` digits; leading zeros are allowed.
 #[tactic(auto, unfolding(text_reader::specs::Field::digit, text_reader::specs::Field::digits, text_reader::specs::Field::shift, text_reader::specs::Field::decimal))]
 fn digits_of(bytes: &[u8], most: usize) -> Option<u64>
     requires { most ≤ 10 }
@@ -49,7 +49,7 @@ fn digits_of(bytes: &[u8], most: usize) -> Option<u64>
     Some(value)
 }
 
-// The digits behind a point, one to six, in millionths.
+// The digits after a point, one to six, in millionths.
 fn fraction_of(bytes: &[u8]) -> Option<u64>
     ensures value { result ≡ fraction_of bytes.now }
     ensures small { IfSome result (λ v. v < 10 ^ 6) }
@@ -88,7 +88,7 @@ fn pair_of(bytes: &[u8]) -> Option<(u64, u64)>
     Some((index_of(first)?, index_of(second)?))
 }
 
-// What stands behind `p_`: a signal, a phase and a step.
+// What follows `p_`: a signal, a phase and a step.
 fn phase_in(bytes: &[u8]) -> Option<Variable>
     ensures { result ≡ phase_in bytes.now }
 {
@@ -102,7 +102,7 @@ fn phase_in(bytes: &[u8]) -> Option<Variable>
     })
 }
 
-// A name by its letter and what stands behind the underscore after it.
+// A name by its letter and what follows the underscore after it.
 fn variable_in(letter: u8, bytes: &[u8]) -> Option<Variable>
     ensures { result ≡ variable_in letter bytes.now }
 {

@@ -119,7 +119,7 @@ module _ (network : List Line) (r : Refusal) (refused : verdict (network_checks 
   unfolding ledger_after
   refused-rows plan old = rw (rows_none network plan (length old) (λ d. refused-fails (network_checks network) r refused d.network-holds)) (written_none network plan old)
 
--- the two texts are told the same, whatever the network
+-- the two texts get the same answer, whatever the network
 same-told : {A : Type 0} (network : List Line) (f : List Line → A) → ((r : Refusal) → verdict (network_checks network) ≡ Err r → (plan other : List Line) → f plan ≡ f other)
     → f (meant network (lines [])) ≡ f (meant network (lines (hold_text network)))
 same-told network f refused = go (verdict (network_checks network)) refl

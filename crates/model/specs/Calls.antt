@@ -68,7 +68,8 @@ module _ (network : List Line) (ledger : List ℕ) (boundary link : ℕ) where
   unfoldable pub end_elapsed : ℕ
   end_elapsed = elapsed network boundary (link - 1)
 
-  -- entered at boundary m of the timeline, for what has arrived: before time 0 by the network alone (in which no plan has a say), from then on by the ledger
+  -- entered at boundary m of the timeline, for what has arrived: before time 0 by the network alone (no plan changes
+  -- it), from then on by the ledger
   unfoldable pub arrival_entered : ℕ → ℕ
   arrival_entered m =
       cond (ltb (time network boundary) (travel_time network (link - 1))) (timeline_entered network [] m (link - 1)) (ledger_entered (m - past_count network))

@@ -1,5 +1,5 @@
--- What the lines of a plan text say on a network, and the traffic reckoned from them. Step n leads from boundary n to boundary n + 1; n counts the plan's steps and
--- boundaries, m the timeline's.
+-- What the lines of a plan text say on a network, and the traffic that follows from them. Step n leads from boundary n
+-- to boundary n + 1; n counts the plan's steps and boundaries, m the timeline's.
 use Rattle.std.specs.Prelude.{ℕ, zero, suc, ◌+◌, ◌*◌, ◌-◌, List, [], ◌∷◌, ◌++◌, Bool, cond, leb, ltb, eqb}
 use Rattle.text_reader.specs.Lines.{Line}
 use Rattle.model.specs.declared.Signal.{Signal}

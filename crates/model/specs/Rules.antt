@@ -93,8 +93,9 @@ module _ (network : List Line) where
       and every (signal_count network) (λ r. every (signal network r).phases (λ k. leb (step_length network n) (get_or (signal network r).greatest k 0)))
       and every (link_count network) (λ i. leb (demand network n i) 600_000)
 
-  -- 30, link i when the past ends, in which no plan has a say: it has left at most what has arrived and holds at most its capacity; and past entries, waiting volume
-  -- and demands are at most 72,000,000 (120 × 600,000) + 13,800,000 (23 × 10,000 × 60) × `H` lines
+  -- 30, link i when the past ends, which no plan changes: at most what has arrived has left it, and it holds at most
+  -- its capacity; and past entries, waiting volume and demands are at most 72,000,000 (120 × 600,000) + 13,800,000 (23
+  -- × 10,000 × 60) × `H` lines
   unfoldable pub valid_past_of : ℕ → Bool
   valid_past_of i =
       has_arrived network [] (left network [] 0 i) 0 i

@@ -1,4 +1,5 @@
--- The checks of each call, in the paper's order ("The calls and how each declines"). A line has its number from 1, and 0 where none is named.
+-- The checks of each call, in the paper's order ("The calls and how each declines"). Lines are numbered from 1; 0 means
+-- that no line is named.
 use Rattle.std.specs.Prelude.{ℕ, suc, ◌+◌, ◌*◌, Bool, List, [], ◌∷◌, leb, eqb, length, get_or}
 use Rattle.base_search.specs.Checks.{Checks, check, each, ◌then◌, Rule, table}
 use Rattle.text_reader.specs.Lines.{Line, no_line, is_record, starts_as}

@@ -5,14 +5,14 @@
 ghost use Rattle.std.specs.Prelude.{◌≡◌, ◌+◌, ◌*◌, ◌≤◌, get_or};
 ghost use Rattle.model.specs.Signals.{signal_by, signal_row};
 
-// How many phases a signal has at most.
 pub const MAX_PHASES: usize = 8;
 
-// How many numbers a `G` line of that many phases has.
+// How many numbers a `G` line has, with `MAX_PHASES` phases.
 pub const SIGNAL_FIELDS: usize = 6 + 2 * MAX_PHASES;
 
-// A signal (the paper's light): its `G` line, with the phase that it shows, for how many seconds, and the seconds since phase 1 last began.
-// `least` and `greatest` have phase k's times at k - 1. That it has at most 8 phases is no fact of the type: it is made of any `G` line, and judged then (refusal 3).
+// A signal (the paper's light): its `G` line, with the phase that it shows, for how many seconds, and the seconds since
+// phase 1 last began. `least` and `greatest` have phase k's times at k - 1. The type does not say that it has at most 8
+// phases: it is made from any `G` line, and judged then (refusal 3).
 #[derive(Clone, Copy, Default)]
 pub struct Signal {
     pub least_cycle: u32,
@@ -38,7 +38,8 @@ impl Signal {
 impl From<[u32; SIGNAL_FIELDS]> for Signal {
     ghost from_gives = { λ fields signal. signal ≡ signal_by (λ k. get_or fields k 0) };
 
-    // Each time at its place, since a least and a greatest stand in turn: a loop would have to work the places out, as 6 + 2 * k and 7 + 2 * k.
+    // Each time is written out, since least and greatest times alternate: a loop would have to compute their places, 6
+    // + 2 * k and 7 + 2 * k.
     fn from(fields: [u32; SIGNAL_FIELDS]) -> Self {
         Signal {
             least_cycle: fields[0],

@@ -1,4 +1,4 @@
--- Refusals told some lines later.
+-- Refusals reported some lines later.
 use Rattle.base_laws.proofs.Kit.{◌≡◌, refl, Bool, true, false, ℕ, zero, suc, ◌+◌, ◌≤◌, ◌<◌, arith}
 use Rattle.base_search.specs.Checks.{or_else, first_from, checked, Verdict}
 use Rattle.model_carry.specs.CarriesOn.{later}
@@ -14,7 +14,7 @@ unfolding later checked
 later-checked a true x y z = refl
 later-checked a false x y z = refl
 
--- a search whose verdicts are told later, and stand d further on
+-- a search whose verdicts are reported later, and are d further on
 pub later_first : (a d : ℕ) (f g : ℕ → Verdict) (n i : ℕ) → ((k : ℕ) → i ≤ k → k < i + n → f (d + k) ≡ later a (g k)) → first_from f n (d + i) ≡ later a (first_from g n i)
 unfolding first_from
 later_first a d f g zero i h = unfold later in refl

@@ -1,4 +1,4 @@
--- A line of the plan is judged on what is left of a network as it is on the whole, and told so many lines later.
+-- A line of the plan is judged on what is left of a network as it is on the whole, and reported so many lines later.
 use Rattle.base_laws.proofs.Kit.{◌≡◌, sym, ap₂, ◌∙◌, List, ℕ, suc, ◌+◌, ◌*◌, ◌<◌, arith, length, get_or}
 use Rattle.base_search.specs.Checks.{Rule, rule_at, or_else, verdict, table}
 use Rattle.base_search.proofs.Table.{same-table}
@@ -10,7 +10,7 @@ use Rattle.model_carry.specs.CarriesOn.{later}
 use Rattle.model_carry.proofs.GoesOn.{GoesOn, rules-same}
 use Rattle.model_carry.proofs.Later.{later-or-else, later-checked, later_first}
 
--- a table told later
+-- a table reported later
 table-later : (a line : ℕ) (rules : List Rule) → verdict (table (a + line) rules) ≡ later a (verdict (table line rules))
 unfolding verdict table
 table-later a line rules =

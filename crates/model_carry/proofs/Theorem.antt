@@ -147,7 +147,7 @@ module _ (network plan : List Line) (b size room : ℕ) (parted : Parted network
     abbrev whole_line : ℕ → Verdict
     whole_line n = verdict (line_checks network plan n)
 
-    -- the call tells what the first b lines are told on the cut network
+    -- the call answers what the first b lines get on the cut network
     carry-judged : verdict (carry_checks network first b size room) ≡ first_from cut_line b 0
     unfolding verdict carry_checks boundary_checks
     carry-judged =

@@ -1,5 +1,5 @@
--- The call that carries on from boundary b: when it declines, and what it writes. The plan is the list of the lines that its text stands for on the cut network
--- (`planned_on`).
+-- The call that carries on from boundary b: when it refuses, and what it writes. The plan is the list of the lines that
+-- its text stands for on the cut network (`planned_on`).
 use Rattle.std.specs.Prelude.{ℕ, ◌-◌, cond, List, [], ◌∷◌, ◌++◌, leb, length, Result}
 use Rattle.base_search.specs.Checks.{Checks, check, ◌then◌, verdict}
 use Rattle.text_reader.specs.Lines.{Line, lines}

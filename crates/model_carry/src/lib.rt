@@ -1,2 +1,3 @@
-// Carry on from a boundary (T-09): its definitions stand in specs/, the theorem in specs/CarriesOn.antt. This crate has no code.
+// The definitions of carrying on from a boundary (T-09), and their theorem (specs/CarriesOn.antt). This crate has no
+// code.
 #![tactic(auto)]

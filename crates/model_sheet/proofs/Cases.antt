@@ -43,7 +43,8 @@ even = read (before ++ "P\t1\t1\t0\t0\nP\t2\t1\t0\t0\nP\t2\t1\t0\t0\nP\t1\t1\t0\
 abbrev judged : List Line → List Line → String → Verdict
 judged network plan sheet = verdict (keep_checks network (read sheet) plan 60)
 
--- kept; 34 told before the run that is seen first, by the lower of two signals; 33 by a limit and for a surplus line; 8 after 33, 9 after 8
+-- kept; 34 reported before the run that is seen first, by the lower of two signals; 33 by a limit and for a surplus
+-- line; 8 after 33, 9 after 8
 the-cases : (judged two even "F\t20\t20\nF\t20\t20\n"
     ∷ judged two short "F\t20\t20\nF\t20\t30\n"
     ∷ judged two short "F\t20\t20\nF\t20\t20\n"

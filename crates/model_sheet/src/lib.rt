@@ -1,2 +1,3 @@
-// Fixed-time sheets (T-10): what it is for a plan to keep a sheet, and what the two calls promise, stands in specs/. This crate has no code.
+// The definitions of fixed-time sheets (T-10): when a plan keeps a sheet, and what the two calls promise. This crate
+// has no code.
 #![tactic(auto)]

@@ -85,7 +85,7 @@ rooms a b c d = record { network_1 = a; plan_1 = b; network_2 = c; plan_2 = d }
 abbrev nowhere : Lengths
 nowhere = rooms 0 0 0 0
 
--- what is told of a set of links, with no room for anything
+-- the answer to a set of links, with no room for anything
 abbrev refused : String → String → ℕ → String → SplitCase
 refused network plan set text = record { network = network; plan = plan; set = set; room = nowhere; text = text }
 
@@ -145,7 +145,7 @@ cases =
     ∷ refused the_network "x" 6 "R\t40\t0\t0\n"
     ∷ refused (network_with "0" "0" "1" "" "0") "x" 1 "R\t40\t0\t0\n"
     ∷ refused (network_with "0" "0" "0" "" "1") "x" 1 "R\t40\t0\t0\n"
-    -- 41, before the plan's 9; which is told at its line, and before 42
+    -- 41, before the plan's 9; which is reported at its line, and before 42
     ∷ refused "N\t2\t1\t0\t1\t0\t0\nG\t20\t60\t2\t2\t10\t20\t10\t30\t10\t30\nQ\t9\t9\t0\t1\t1\t0\t0\nQ\t9\t9\t0\t1\t2\t0\t0\nS\t10\t0\t0\n" "x" 1 "R\t41\t0\t0\n"
     ∷ refused the_network "x" 1 "R\t9\t1\t0\n"
     ∷ refused the_network (the_plan & "P\n") 1 "R\t9\t5\t0\n"

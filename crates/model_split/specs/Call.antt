@@ -1,4 +1,5 @@
--- The call that splits (T-14): when it declines, and what it writes. The plan is the list of the lines that its text stands for (`plan_of`).
+-- The call that splits (T-14): when it refuses, and what it writes. The plan is the list of the lines that its text
+-- stands for (`plan_of`).
 use Rattle.std.specs.Prelude.{ℕ, suc, ◌+◌, ◌*◌, ◌-◌, ◌^◌, ◌/◌, ◌%◌, Bool, not, List, [], ◌∷◌, ◌++◌, leb, ltb, eqb, length, Result, Ok, Err}
 use Rattle.base_search.specs.Checks.{Checks, check, each, ◌then◌, verdict, Verdict}
 use Rattle.text_reader.specs.Lines.{Line}

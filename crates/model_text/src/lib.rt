@@ -1,2 +1,2 @@
-// A network by its numbers: its lines, its text, and what its checks ask of them (specs/). This crate has no code.
+// A network given by its numbers: its lines, its text, and when they pass the checks. This crate has no code.
 #![tactic(auto)]

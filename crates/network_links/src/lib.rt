@@ -71,7 +71,8 @@ pub fn read_links(
     Ok(reading.moved_to(next))
 }
 
-// Refusal 5: the pair (from, to) of movement `j` is above that of the movement before. Tried as a comparison of tuples: `search` did not close the answer.
+// Refusal 5: the pair (from, to) of movement `j` is above that of the movement before. Written out, since `search` does
+// not prove a comparison of tuples.
 fn pair_rises(movements: &[Movement], j: usize) -> bool
     requires { j < length movements.now }
     ensures { result ≡ pair_rises_in movements.now j }

@@ -147,8 +147,9 @@ fn read_signal(
     Ok(reading.moved_to(next))
 }
 
-// All `G` lines: the first refusal, or the signals, and the shortest of all greatest times, 60 where all are longer: no step has more seconds (refusal 6).
-// By index: r also numbers the line and the refusal, and `read_signal` promises of the whole table that it keeps the other signals.
+// All `G` lines: the first refusal, or the signals, and the shortest of all greatest times, 60 where all are longer: no
+// step has more seconds (refusal 6). By index: r also numbers the line and the refusal, and `read_signal` takes the
+// whole table and promises to keep the other signals.
 pub fn read_signals(
     text: &[u8],
     reading: Reading,

@@ -1,4 +1,4 @@
--- The numbers of one `S` line, its length and then the demand of each link, and what the functions that read such lines ask and promise.
+-- The numbers of one `S` line, its length and then the demand of each link, and what the functions that read such lines require and promise.
 use Rattle.std.specs.Prelude.{ℕ, ◌+◌, ◌<◌, ◌≡◌, Bool, List, leb, length, get_or}
 use Rattle.text_reader.specs.Lines.{lines}
 use Rattle.text_reader.specs.Reading.{Starts}
@@ -17,7 +17,7 @@ valid_demands_in demands = every (length demands) (λ i. leb (get_or demands i 0
 unfoldable pub valid_step_in : ℕ → List ℕ → ℕ → Bool
 valid_step_in seconds demands shortest = within 1 seconds 60 and leb seconds shortest and valid_demands_in demands
 
--- what the reading of all `S` lines asks ..
+-- what the reading of all `S` lines requires ..
 pub record StepsAsked (text : List ℕ) (reading : Reading) (times demands : List ℕ) : Type 0 where
   pub reached : Reached text (step_line (lines text) 0) reading
   pub past-start : Starts text reading.past_at (timeline_line (lines text) 0)

@@ -27,8 +27,8 @@ fn valid_step(seconds: u32, demands: &[u32], shortest: u32) -> bool
     (1..=MAX_SECONDS).contains(&seconds) & (seconds <= shortest) & valid_demands(demands)
 }
 
-// Refusals 1 and 6: reads the `S` lines, sets the time of each boundary, if the past is timed, and sums up the demands of each link. Not by `read_rows`: the lines
-// are kept in no table, but only their times and sums.
+// Refusals 1 and 6: reads the `S` lines, sets the time of each boundary, if the past is timed, and sums up the demands
+// of each link. Not by `read_rows`: no table keeps the lines, only their times and sums are kept.
 pub fn read_steps(
     text: &[u8],
     reading: Reading,

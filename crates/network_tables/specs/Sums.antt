@@ -14,12 +14,12 @@ pub record Summed (numbers before : List ℕ) (result : Option (Unit {0})) (afte
   pub kept : (k : ℕ) → length numbers ≤ k → get_or after k 0 ≡ get_or before k 0
   pub overflows : result ≡ None → Overflow numbers before
 
--- what adding numbers to sums without a test asks: each sum fits 32 bits ..
+-- what adding numbers to sums without a test requires: each sum fits 32 bits ..
 pub record EachFits (numbers sums : List ℕ) : Type 0 where
   pub few : length numbers ≤ length sums
   pub fits : (k : ℕ) → k < length numbers → get_or sums k 0 + get_or numbers k 0 < 4294967296
 
--- .. and gives
+-- .. and promises
 pub record EachAdded (numbers before after : List ℕ) : Type 0 where
   pub size : length after ≡ length before
   pub added : (k : ℕ) → k < length numbers → get_or after k 0 ≡ get_or before k 0 + get_or numbers k 0

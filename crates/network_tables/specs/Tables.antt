@@ -1,4 +1,5 @@
--- What the program's tables hold of a network text while it is judged. Not of the paper: the contracts between the crates of the program speak of these.
+-- What the program's tables hold of a network text while it is judged. These definitions are not the paper's: the
+-- contracts between the crates use them.
 use Rattle.std.specs.Prelude.{ℕ, ◌+◌, ◌*◌, ◌≤◌, ◌<◌, ◌≡◌, List, leb, length, get_or, Result, Ok, Err}
 use Rattle.base_search.specs.Checks.{Checks, verdict, Verdict}
 use Rattle.text_reader.specs.Lines.{Line, lines}

@@ -28,7 +28,6 @@ pub const MAX_TRAMS: usize = 16;
 
 pub const MAX_PAST: usize = 120;
 
-// The most seconds of a step.
 pub const MAX_SECONDS: u32 = 60;
 
 // What the shares of a link's movements sum to, in thousandths.
@@ -54,7 +53,8 @@ pub const TIME_TABLE_SIZE: usize = MAX_STEPS + 1;
 
 pub const ROW_SIZE: usize = 2 * MAX_LINKS;
 
-// The counts of an `N` line. That they are within the limits (`Few`) is no fact of the type: a line is judged by the counts that were read of it (refusal 2).
+// The counts of an `N` line. The type does not say that they are within the limits (`Few`): they are judged after they
+// are read (refusal 2).
 #[derive(Clone, Copy)]
 pub struct Counts {
     pub links: usize,
@@ -110,7 +110,8 @@ impl From<Tram> for [u32; TRAM_FIELDS] {
     }
 }
 
-// A `Q` line: a link, with the number of its signal, from 1, or 0 for none: no `Option`, as it is compared with the text's number, and written back as it is.
+// A `Q` line: a link, with the number of its signal, from 1, or 0 for none: not an `Option`, since it is compared with
+// numbers of the text and written back as it is.
 #[derive(Clone, Copy, Default)]
 pub struct Link {
     pub capacity: u32,
@@ -184,9 +185,9 @@ impl From<Movement> for [u32; MOVEMENT_FIELDS] {
     }
 }
 
-// How far a network text has been read while its lines pass: its counts, the place of the next line, the places where its `T`, its `H` and its `S` lines
-// start, the shortest of all greatest times, and whether the lengths of the past steps and the number of all steps are valid: a `bool`, since 30 is told
-// after all lines.
+// How far a network text has been read while its lines pass: its counts, the place of the next line, the places where
+// its `T`, its `H` and its `S` lines start, the shortest of all greatest times, and whether the lengths of the past
+// steps and the number of all steps are valid: a `bool`, since refusal 30 is reported after all lines.
 #[derive(Clone, Copy)]
 pub struct Reading {
     pub counts: Counts,
@@ -207,8 +208,8 @@ impl Reading {
     }
 }
 
-// A network's text and what its reading gives, but for its signals, which change from step to step: all tables are lent, those of its links and movements cut to
-// them.
+// A network's text and the tables that are read from it, without its signals, which change from step to step. All
+// tables are lent; those of links and movements are cut to as many as the network has.
 #[derive(Clone, Copy)]
 pub struct NetworkTables<'a> {
     pub text: &'a [u8],
@@ -299,24 +300,24 @@ pub fn read_row(text: &[u8], at: usize, letter: u8, row: &mut [u32]) -> Option<u
     text_reader::line_at(text, at, letter, row)
 }
 
-// Reads a line that has passed again, and gives the place of the next line. Such a line is never malformed.
+// Reads again a line that has passed, which is never malformed; returns the place of the next line.
 pub fn read_again(text: &[u8], at: usize, letter: u8, row: &mut [u32]) -> usize
     ensures { ReadAgain letter (length row.old) text.now at row.old result row.new }
 {
     read_row(text, at, letter, row).unwrap_or(at)
 }
 
-// Reads the beginning of a line of this letter: the numbers that fill a row, whatever follows them. A `bool`, for an `if` or `checked`, as there is no place of
-// a next line to give.
+// Reads the beginning of a line of this letter: the numbers that fill a row, whatever follows them. Returns a `bool`,
+// since there is no place of a next line.
 pub fn read_head(text: &[u8], at: usize, letter: u8, row: &mut [u32]) -> bool
     ensures { HeadRead letter (length row.old) text.now at row.old result row.new }
 {
     text_reader::head_at(text, at, letter, row)
 }
 
-// Reads `count` lines of a letter, each into its item of a table, where it is judged before the next line is read: the place behind the last of them, or the
-// first refusal. `first` is the line, from 1, that starts at `at`. By index: the closure judges the table up to the item,
-// and could not read it while `iter_mut` lends the item.
+// Reads `count` lines of a letter into the items of a table, and judges each item before it reads the next line.
+// Returns the place after the last of them, or the first refusal. `first` is the number, from 1, of the line at `at`.
+// By index: the closure judges the table up to the item, and could not read it while `iter_mut` lends the item.
 pub fn read_rows<
     const W: usize,
     T: From<[u32; W]> + Copy,
@@ -350,7 +351,7 @@ pub fn read_rows<
     Ok(place)
 }
 
-// Adds numbers to sums, up to the first sum that does not fit 32 bits, where there is none.
+// Adds numbers to sums; none if a sum does not fit 32 bits.
 pub fn add_numbers(numbers: &[u32], sums: &mut [u32]) -> Option<()>
     requires { length numbers.now ≤ length sums.old }
     ensures { Summed numbers.now sums.old result sums.new }
@@ -371,8 +372,9 @@ pub fn add_each(numbers: &[u32], sums: &mut [u32])
     }
 }
 
-// The numbers of an `S` line: its length, and the demand of link `i`. It and a `P` line are slices: a reference to an array would be a narrower type than
-// callers lent before. `i < max_links` is a clause of each: an index type that holds it would ask each caller to make one first.
+// The numbers of an `S` line: its length, and the demand of link `i`. An `S` line and a `P` line are slices, as callers
+// lend them. Each function requires `i < max_links`: with an index type for this, each caller would have to make one
+// first.
 pub fn step_length(step: &[u32]) -> u32
     requires { length step.now ≡ step_size }
     ensures { result ≡ length_in step.now }
@@ -387,8 +389,8 @@ pub fn demand(step: &[u32], i: usize) -> u32
     step[1 + i]
 }
 
-// The numbers of a `P` line, a slice as an `S` line is: what it admits on link i, lets out from link i, and moves by movement j. Line and counts stay two parameters: a `Step` has both, and the
-// other callers have a line of their own beside a network's counts.
+// The numbers of a `P` line: what it admits on link i, lets out from link i, and moves by movement j. Line and counts
+// are two parameters: only some callers have a `Step`, which has both.
 pub fn admitted(line: &[u32], counts: Counts, i: usize) -> u32
     requires { Few counts × (i < max_links) × (length line.now ≡ line_size) }
     ensures { result ≡ admitted_in counts line.now i }
@@ -410,7 +412,7 @@ pub fn moved(line: &[u32], counts: Counts, j: usize) -> u32
     line[counts.signals + (2 * counts.links + j)]
 }
 
-// Entered and left of link i in a row of the ledger, which is flat as C lends it.
+// entered and left of link i in a row of the ledger, which is flat, as C lends it.
 pub fn entered(row: &[u32], i: usize) -> u32
     requires { 2 * i + 1 < length row.now }
     ensures { result ≡ entered_in row.now i }

@@ -36,7 +36,7 @@ pub record PhaseAsked (tram : Tram) (signals : List Signal) : Type 0 where
   pub first : 1 ≤ tram.signal
   pub last : tram.signal ≤ length signals
 
--- what the check of all phases asks
+-- what the check of all phases requires
 pub record PhasesAsked (trams : List Tram) (signals : List Signal) (counts : Counts) : Type 0 where
   pub size : length trams ≡ counts.trams
   pub few : counts.trams ≤ max_trams

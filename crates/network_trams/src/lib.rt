@@ -90,7 +90,7 @@ pub fn check_tram_phases(trams: &[Tram], signals: &[Signal], counts: Counts) -> 
     Ok(())
 }
 
-// The `T` lines, which have passed, read again: the part of the room that has a tram for each.
+// Reads the `T` lines again, which have passed; returns the part of the room that has a tram for each.
 pub fn load_trams<'a>(tables: &NetworkTables, room: &'a mut [Tram]) -> &'a [Tram]
     requires { LoadAsked tables.now room.old }
     ensures { TramTable (lines tables.now.text.now) result.now }
@@ -110,7 +110,7 @@ pub fn load_trams<'a>(tables: &NetworkTables, room: &'a mut [Tram]) -> &'a [Tram
     &room[..count]
 }
 
-// A tram's claim in step `n`: its phase is asked of its signal, where the step is one of its steps.
+// Writes a tram's phase at its signal, if `n` is one of its steps.
 fn claim(tram: Tram, n: usize, asked: &mut [u32])
     requires { ClaimAsked tram n asked.old }
     ensures { asked.new ≡ claimed tram n asked.old }
@@ -122,8 +122,8 @@ fn claim(tram: Tram, n: usize, asked: &mut [u32])
     }
 }
 
-// The phase that a tram asks of each signal in step `n`, 0 in an ordinary step, by the table of the `T` lines: from the last to the first, which is the one that
-// counts where several claim a signal.
+// The phase that a tram asks of each signal in step `n`, 0 in an ordinary step. From the last tram to the first: if
+// several claim a signal, the first counts.
 pub fn tram_phases(trams: &[Tram], n: usize, asked: &mut [u32])
     requires { ClaimsAsked trams.now n asked.old }
     ensures { Claimed trams.now n asked.new }

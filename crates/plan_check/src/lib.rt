@@ -15,9 +15,9 @@ use model::Totals;
 use network::{Room, Start};
 use network_tables::{NetworkTables, row_start};
 
-// Judges a plan on a network that has passed, from its start on, which it steps on: the ledger's length, then the steps.
-// No struct of the four: two are read and two are written, and each caller has the four as they are. That the tables are loaded is no fact of their type, since it
-// speaks of the start too, which changes while the tables stay.
+// Judges a plan on a network that has passed: the ledger's length, then the steps. `start` moves on with the steps. The
+// four parameters are not a struct: two are read and two are written, and each caller has them apart. Their types do
+// not say that the tables are loaded, since that speaks of the start too, which changes.
 pub fn judge_loaded(
     plan: &[u8],
     tables: &NetworkTables,

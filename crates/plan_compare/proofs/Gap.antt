@@ -18,7 +18,7 @@ gap-not-above a b h = elim (dec_lt a b) [
   | no l ↦ rw (gap-none a b (omega arith)) (le_z_yes tt)
 ]
 
--- the gap tells which is the lesser
+-- the gap says which is the lesser
 pub gap-quicker : (a b : ℕ) → (sub_ℕ a b <ℤ pos 0) ↔ (a < b)
 gap-quicker a b = (
   λ h. elim (dec_lt a b) [

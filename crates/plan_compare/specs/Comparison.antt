@@ -16,14 +16,15 @@ use Rattle.base_search.specs.declared.Refusal.{Refusal}
 use Rattle.model.specs.declared.Totals.{Totals}
 use Rattle.base_search.specs.Checks.{Verdict}
 
--- the number by which answers tell an order
+-- the number of an order in answers
 abbrev pub order_number : Order → ℕ
 order_number Ahead = 1
 order_number Behind = 2
 order_number Equal = 3
 order_number Crossing = 4
 
--- the order of two plans, by whether the first is never fewer, and whether the second is: who is not is fewer somewhere, and the other there is more
+-- the order of two plans, by whether the first is never fewer, and whether the second is: if a plan is not never fewer,
+-- it is fewer somewhere, and there the other is more
 abbrev pub order_by : Bool → Bool → Order
 order_by true false = Ahead
 order_by false true = Behind

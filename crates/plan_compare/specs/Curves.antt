@@ -35,7 +35,7 @@ pub record LetOutAt (counts : Counts) (text : List ℕ) (n : ℕ) (so_far : LetO
   pub small : so_far.volume ≤ 103_079_215_080 * n
   pub starts : 0 < length text → Starts text so_far.at n
 
--- what reading a text's next line asks: it has been read up to a boundary before the last ..
+-- what reading a text's next line requires: it has been read up to a boundary before the last ..
 pub record NextAsked (counts : Counts) (text : List ℕ) (so_far : LetOut) : Type 0 where
   pub formed : Formed counts text
   pub boundary : ℕ

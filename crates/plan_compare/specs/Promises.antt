@@ -23,7 +23,7 @@ module _ (network : List Line) where
   abbrev pub SomewhereMore : List Line → List Line → Type 0
   SomewhereMore one other = (n : ℕ) × (n ≤ step_count network) × (let_out_by network other n < let_out_by network one n)
 
-  -- how the first of two plans stands to the second where this is their order
+  -- how the first of two plans compares with the second if this is their order
   abbrev pub Stands : Order → List Line → List Line → Type 0
   Stands Ahead first second = NeverFewer first second × SomewhereMore first second
   Stands Behind first second = NeverFewer second first × SomewhereMore second first

@@ -1,4 +1,4 @@
-// Which of two plans is ahead: the call `compare_plans`.
+// Finds which of two plans is ahead: the call `compare_plans`.
 #![tactic(auto)]
 
 ghost use Rattle.std.specs.Prelude.{◌≡◌, ◌<◌, length};
@@ -16,7 +16,7 @@ use base_search::Refusal;
 use network::{Room, Start};
 use network_tables::{Counts, LINE_SIZE, NetworkTables};
 
-// How the first of two plans stands to the second, by all vehicles let out up to each boundary.
+// How the first of two plans compares with the second, by all vehicles let out up to each boundary.
 #[derive(Clone, Copy)]
 pub enum Order {
     Ahead,
@@ -26,7 +26,8 @@ pub enum Order {
 }
 
 impl Order {
-    // The number by which answers tell it. By a match: as discriminants, a wrong program that gives two variants one number would not compile.
+    // Its number in answers. A `match`, not discriminants: with these, a wrong program that gives two variants one
+    // number would not compile, and so would test no proof.
     pub fn number(self) -> u32
         ensures { result ≡ order_number self }
     {
@@ -55,7 +56,7 @@ pub enum ComparisonRefusal {
 }
 
 impl ComparisonRefusal {
-    // The plan that it means, 1 or 2, or 0 for the network.
+    // Which plan is refused, 1 or 2, or 0 for the network.
     pub fn plan(self) -> u32
         ensures { result ≡ plan_number self }
     {
@@ -66,7 +67,7 @@ impl ComparisonRefusal {
         }
     }
 
-    // What it is refused for, whichever it means.
+    // The refusal, of the network or of either plan.
     pub fn refusal(self) -> Refusal
         ensures { result ≡ refusal_in self }
     {
@@ -121,7 +122,8 @@ fn order_by(first: bool, second: bool) -> Order
     }
 }
 
-// The order of two plan texts, by one pass over both. The ledgers don't have it: what has left a link was let out or moved.
+// The order of two plan texts, by one pass over both. The ledgers don't have these volumes: what has left a link was
+// let out or moved.
 fn order_of_texts(first: &[u8], second: &[u8], counts: Counts) -> Order
     requires { Formed counts first.now × Formed counts second.now }
     ensures { result ≡ lines_order counts first.now second.now }

@@ -24,7 +24,7 @@ pub record Tabled (tables : NetworkTables) : Type 0 where
   pub time-table : TimeTable (lines tables.text.now) tables.times.now
   pub holds : Hold (network_checks (lines tables.text.now))
 
--- what reading the arrivals of link i at boundary n asks: the ledger has every row
+-- what reading the arrivals of link i at boundary n requires: the ledger has every row
 pub record ArrivedAsked (tables : NetworkTables) (ledger : List ℕ) (n i : ℕ) : Type 0 where
   pub tabled : Tabled tables
   pub early : n ≤ step_count (lines tables.text.now)

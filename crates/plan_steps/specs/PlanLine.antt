@@ -20,7 +20,7 @@ formed network plan n = is_form plan n letter_p (signal_count network + (2 * lin
 abbrev pub PlanAt : List ℕ → ℕ → ℕ → Type 0
 PlanAt plan_text at n = 0 < length plan_text → Starts plan_text at n
 
--- what reading a step's line asks ..
+-- what reading a step's line requires ..
 pub record LineAsked (signals : List Signal) (counts : Counts) (line : List ℕ) : Type 0 where
   pub few : Few counts
   pub signals-size : length signals ≡ max_signals

@@ -1,4 +1,4 @@
--- What reading the lines of a step asks and promises.
+-- What reading the lines of a step requires and promises.
 use Rattle.std.specs.Prelude.{ℕ, ◌+◌, ◌≤◌, ◌<◌, ◌≡◌, true, false, List, length, get_or, Option, MatchOption}
 use Rattle.base_search.specs.Checks.{Hold}
 use Rattle.text_reader.specs.Lines.{lines}
@@ -43,7 +43,7 @@ pub record LinesLent (network_text plan_text : List ℕ) (lent : Lines) : Type 0
   pub phases-size : length lent.phases ≡ max_signals
   pub no-volume : length plan_text ≡ 0 → (k : ℕ) → signal_count (lines network_text) ≤ k → get_or lent.plan k 0 ≡ 0
 
--- what reading the lines of the next step asks ..
+-- what reading the lines of the next step requires ..
 pub record ReadAsked (run : Run) (place : Place) (signals : List Signal) (said : Lines) : Type 0 where
   pub tables : Tables run.tables.now
   pub tram-table : TramTable (lines run.tables.now.text.now) run.trams.now

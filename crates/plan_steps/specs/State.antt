@@ -1,4 +1,4 @@
--- What taking the steps of a plan one after another asks and promises.
+-- What taking the steps of a plan one after another requires and promises.
 use Rattle.std.specs.Prelude.{ℕ, suc, ◌+◌, ◌*◌, ◌≤◌, ◌<◌, ◌≡◌, cond, List, length, Result, Ok, Err, MatchResult}
 use Rattle.base_search.specs.declared.Refusal.{Refusal}
 use Rattle.base_search.specs.Checks.{refusal, verdict}
@@ -58,13 +58,13 @@ first_state tables waiting row =
       outside = sum tables.reading.counts.links (waiting_in waiting);
     }
 
--- what going on to the state after a step that is kept asks, by what its lines say ..
+-- what going on to the state after a step that is kept requires, by what its lines say ..
 pub record NextAsked (state : State) (said : Lines) (counts : Counts) (signals : List Signal) (waiting : List ℕ) : Type 0 where
   pub waits-asked : WaitsAsked counts said.step said.plan waiting
   pub advance-asked : AdvanceAsked signals counts.signals said.phases said.asked (length_in said.step)
   pub totals-asked : (after : List ℕ) → Waits counts said.step said.plan counts.links after → TotalsAsked state.totals state.outside (sum counts.links (waiting_in after)) counts said.plan said.step
 
--- .. and gives: those who wait, the signals, and the state, which has the place of the next lines already
+-- .. and promises: those who wait, the signals, and the state, which has the place of the next lines already
 pub record NextGot (state : State) (said : Lines) (counts : Counts) (before signals : List Signal) (waiting : List ℕ) (next : State) : Type 0 where
   pub stay : Waits counts said.step said.plan counts.links waiting
   pub advanced : Advanced before counts.signals said.phases said.asked (length_in said.step) signals
@@ -72,7 +72,7 @@ pub record NextGot (state : State) (said : Lines) (counts : Counts) (before sign
   pub totals : next.totals ≡ totals_after state.totals state.outside next.outside counts said.plan said.step
   pub outside : next.outside ≡ sum counts.links (waiting_in waiting)
 
--- what taking the next step asks, with room for the row after it ..
+-- what taking the next step requires, with room for the row after it ..
 pub record StepAsked (run : Run) (state : State) (signals : List Signal) (arrivals : List Arrival) (waiting ledger : List ℕ) (said : Lines) : Type 0 where
   pub tables : Tables run.tables.now
   pub tram-table : TramTable (lines run.tables.now.text.now) run.trams.now

@@ -1,4 +1,4 @@
--- What taking the steps of a plan one after another asks and promises: the first of them, and all.
+-- What taking the steps of a plan one after another requires and promises: the first of them, and all.
 use Rattle.std.specs.Prelude.{ℕ, suc, ◌*◌, ◌≤◌, ◌<◌, ◌≡◌, List, length, Result, Ok, Err, MatchResult}
 use Rattle.base_search.specs.declared.Refusal.{Refusal}
 use Rattle.base_search.specs.Checks.{verdict}
@@ -24,7 +24,7 @@ use Rattle.plan_steps.specs.State.{StateAt}
 use Rattle.plan_steps.specs.PlanLine.{PlanAt}
 use Rattle.model.specs.declared.Totals.{Totals}
 
--- what taking all steps asks ..
+-- what taking all steps requires ..
 pub record RunAsked (tables : NetworkTables) (start : Start) (ledger : List ℕ) : Type 0 where
   pub loaded : StartLoaded tables start
   pub room : 2 * suc (step_count (lines tables.text.now)) * link_count (lines tables.text.now) ≤ length ledger
@@ -35,7 +35,7 @@ pub record RunGot (network_text plan_text old : List ℕ) (answer : Result Total
   pub rows : ledger ≡ ledger_after (lines network_text) (plan_of network_text plan_text) old
   pub some-row : 1 ≤ rows_written (lines network_text) (plan_of network_text plan_text) (length old)
 
--- what taking the first steps asks: room for their rows alone
+-- what taking the first steps requires: room for their rows alone
 pub record StepsAsked (tables : NetworkTables) (steps : ℕ) (start : Start) (waiting ledger : List ℕ) : Type 0 where
   pub loaded : StartLoaded tables start
   pub few-steps : steps ≤ step_count (lines tables.text.now)

@@ -24,7 +24,7 @@ totals_after t before after counts line step =
       doubled_time = t.doubled_time + length_in step * (t.inside + before + (inside_after t counts line + after));
     }
 
--- what adding a step to the totals asks: their sums fit 64 bits, and no more leave than there are
+-- what adding a step to the totals requires: their sums fit 64 bits, and no more leave than there are
 pub record TotalsAsked (t : Totals) (before after : ℕ) (counts : Counts) (line step : List ℕ) : Type 0 where
   pub few : Few counts
   pub line-size : length line ≡ line_size

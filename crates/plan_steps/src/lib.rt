@@ -49,8 +49,9 @@ pub struct State {
     pub outside: u64,
 }
 
-// What the lines of a step say: the numbers of its `S` line and of its `P` line, the phases that are shown, and those that trams ask. While a plan is judged, those
-// who wait are added to each demand. `take_steps` lends one from step to step, so that it need not be cleared anew; a sheet's check makes one for each step.
+// What the lines of a step say: the numbers of its `S` line and of its `P` line, the phases that are shown, and those
+// that trams ask. While a plan is judged, those who wait are added to each demand. `take_steps` lends one from step to
+// step, so that it is not cleared each time; a sheet's check makes one for each step.
 #[derive(Drop, Default)]
 pub struct Lines {
     pub step: [u32; STEP_SIZE],
@@ -67,7 +68,7 @@ pub struct Run<'a> {
     pub trams: &'a [Tram],
 }
 
-// Length × (vehicles under way at the step's start + at its end). The bound of 60 seconds is asked as in step_signals.
+// Length × (vehicles under way at the step's start + at its end). It requires at most 60 seconds, as step_signals does.
 fn travel_time(seconds: u32, start: u64, end: u64) -> u64
     requires { (seconds ≤ 60) × (start ≤ 192220015080) × (end ≤ 192220015080) }
     ensures { (result ≡ seconds * (start + end)) × (result ≤ 23066401809600) }
@@ -118,7 +119,8 @@ fn first_state(tables: &NetworkTables, waiting: &[u32], row: &[u32]) -> State
     }
 }
 
-// Goes on to the state after a step that is kept, with its signals and those who wait there; `state` has the place of the next lines already.
+// The state after a step that keeps every rule; moves on the signals and those who wait. `state` already has the place
+// of the next lines.
 fn next_state(
     state: State,
     lines: &Lines,
@@ -154,8 +156,9 @@ fn next_state(
     }
 }
 
-// Reads the numbers of a step's `P` line. An empty text means hold: each signal keeps its phase, and every volume is 0, as `line` has it.
-// Signals and counts stay two parameters here and in `next_state`: the table is whole, and the counts say how many of it there are and how wide the line is.
+// Reads the numbers of a step's `P` line. An empty text means hold: each signal keeps its phase, and every volume is 0,
+// as it already is in `line`. Signals and counts are two parameters here and in `next_state`: the table has room for
+// eight signals, and the counts say how many there are and how wide the line is.
 pub fn read_line(
     plan: &[u8],
     at: usize,
@@ -174,8 +177,8 @@ pub fn read_line(
 }
 
 impl Run<'_> {
-    // Reads the lines of the next step, and what they have signals show and trams ask: the place behind them, or none where the `P` line is malformed.
-    // Inlined, for check_plan's speed (docs/MEASUREMENTS.md).
+    // Reads the lines of the next step, and finds the phases that signals show and trams ask. Returns the place after
+    // the lines; none if the `P` line is malformed. Inlined, for check_plan's speed (docs/MEASUREMENTS.md).
     #[inline(always)]
     pub fn read_lines(&self, place: Place, signals: &[Signal], lines: &mut Lines) -> Option<Place>
         requires { ReadAsked self.now place signals.now lines.old }
@@ -200,8 +203,9 @@ impl Run<'_> {
         })
     }
 
-    // Takes the next step: reads its lines, judges it and, where every rule is kept, writes the row after it into the ledger and gives the state there.
-    // The five tables that a step changes are lent one by one: a struct of them would be taken apart again in each call of the step.
+    // Takes the next step: reads its lines, judges it and, if every rule is kept, writes the row after it into the
+    // ledger and returns the state there. The five tables that a step changes are lent one by one: a struct of them
+    // would be taken apart again in each call of the step.
     fn take_step(
         &self,
         state: State,
@@ -260,8 +264,9 @@ fn finish(plan: &[u8], at: usize, steps: usize, totals: Totals) -> Result<Totals
     Ok(totals)
 }
 
-// Takes the first steps, so many, one after another, up to the first that is refused: row 0 is written, and the signals and the arrivals are moved on from the start.
-// The state is that after them; the signals of `start` and `waiting` have what the signals show and who waits there.
+// Writes row 0 and takes the first `steps` steps, up to the first that is refused. Moves on the signals and the
+// arrivals of `start`. Returns the state after the last step; `start` then has the signals there, and `waiting` those
+// who wait there.
 pub fn take_steps(
     plan: &[u8],
     tables: &NetworkTables,

@@ -1,4 +1,4 @@
--- The number of each result tells what a C caller reads off it.
+-- The number of each result says what a C caller reads off it.
 use Rattle.base_laws.proofs.Kit.{ℕ, ◌≡◌, refl, sym, ap, ◌∙◌, List, arith}
 use lib.Ieee.{Float}
 use Rattle.base_search.specs.declared.Refusal.{Refusal}
@@ -41,7 +41,7 @@ use Rattle.plancheck_c.specs.declared.SplitResult.{SplitResult}
 use Rattle.plancheck_c.specs.Results.{NumberTells, verdict_result, counts_result, plan_result, link_result, text_result, comparison_result, split_result, cells_result}
 use Rattle.std.specs.Prelude.{Ok, Err}
 
--- the number that is told of a verdict
+-- the number of a verdict
 abbrev pub number_of : Verdict → ℕ
 number_of v = (verdict_result v).number
 

@@ -201,7 +201,7 @@ impl From<Result<CellsRun, Refusal>> for CellsResult {
     fn from(answer: Result<CellsRun, Refusal>) -> CellsResult {
         match answer {
             Ok(run) => {
-                // By a name: an array that is taken straight out of another struct gets no proof.
+                // A variable of its own: the prover does not take an array directly out of another struct.
                 let volumes = run.volumes;
                 CellsResult {
                     cells: run.cells,
@@ -222,8 +222,9 @@ impl From<Result<CellsRun, Refusal>> for CellsResult {
     }
 }
 
-// The answer of a comparison of two plans; number 0: both are accepted, the first is ahead (order 1), behind (2), equal (3) or crossing (4), and its doubled time
-// is by so much the greater. Else the plan that the refusal means, 0 for the network.
+// The answer of a comparison of two plans; number 0: both are accepted, the first is ahead (order 1), behind (2), equal
+// (3) or crossing (4), and `gap` is its doubled time minus the second's. Otherwise `plan` is the plan that is refused,
+// 0 for the network.
 #[repr(C)]
 #[derive(Clone, Copy, Default)]
 pub struct ComparisonResult {
@@ -309,8 +310,8 @@ pub extern "C" fn plancheck_network_counts(network: &[u8]) -> CountsResult
     ensures number_tells { NumberTells (network_checks (lines network.now)) network_numbers result.number }
     ensures padding_ignored { PaddingIgnored network.now (λ padded. result ≡ counts_result (count_network (lines padded))) }
 {
-    // Not by `From`, which may ask nothing of the counts: that they fit, `count_network` promises.
-    // Not by `..CountsResult::default()` either: tried, the proof of its two returns, which cites whole literals, didn't close.
+    // Not a `From`: that can have no precondition on the counts, which fit by the promise of `count_network`. Not
+    // `..CountsResult::default()` either: the proof of the two returns needs whole literals.
     match network::count_network(network) {
         Ok(counts) => CountsResult {
             number: 0,

@@ -9,7 +9,8 @@ use std::fs::File;
 use std::io::Read;
 use std::rt::Files;
 
-// Reads to the end of an open file: how many bytes there were. None where it can't be read, or fills the buffer, which has room for one byte too few then.
+// Reads an open file to its end; returns how many bytes there were. None if it can't be read, or if it fills the
+// buffer: then its end was not reached.
 pub fn read_open<R: Read>(file: &mut R, buffer: &mut [u8]) -> Option<usize>
     ensures within { Within (length buffer.old) result }
     ensures whole { IsWhole (R.remaining file.old) buffer.new result }
@@ -26,7 +27,7 @@ pub fn read_open<R: Read>(file: &mut R, buffer: &mut [u8]) -> Option<usize>
     None
 }
 
-// Reads the file at a path: how many bytes it has. None where it can't be opened, too.
+// Reads the file at a path; returns how many bytes it has. None also if it can't be opened.
 pub fn read_file(files: &impl Files, path: &str, buffer: &mut [u8]) -> Option<usize>
     ensures { Within (length buffer.old) result }
 {

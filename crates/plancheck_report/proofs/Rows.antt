@@ -32,7 +32,7 @@ module _ (network plan : List Line) (old : List ℕ) (m : ℕ) (long : 2 * m * l
   unfolding ledger_numbers boundary_numbers
   rows-printed = records-same 66 _ _ m (λ n l. ap (λ r. n ∷ time network n ∷ r) (row_read n l))
 
--- by the counts and times that a network's reading tells they are those of its text
+-- by the counts and times of a network's reading they are those of its text
 module _ {network : List Line} {counted : Counts} {times : List ℕ} (c : CountsHold network counted) (t : TimeTable network times) where
   at-boundary : (n : ℕ) → n ≤ step_count network → get_or times (counted.past + n) 0 ≡ timeline_time network (past_count network) + time network n
   unfolding on_timeline

@@ -1,4 +1,5 @@
-// Writes what the program `plancheck` prints into a lent buffer: the whole text is proved, and the bytes behind it are kept.
+// Writes what the program `plancheck` prints into a lent buffer: the whole text is proved, and the bytes after it are
+// kept.
 #![tactic(auto)]
 
 ghost use Rattle.std.specs.Prelude.{◌≡◌, ◌∷◌, ◌++◌, ◌+◌, ◌≤◌, length};
@@ -30,7 +31,8 @@ pub enum InputFile {
 }
 
 impl InputFile {
-    // Its number in `L` records. Not by discriminants: a wrong program that gives both files one number would not compile.
+    // Its number in `L` records. A `match`, not discriminants: with these, a wrong program that gives both files one
+    // number would not compile, and so would test no proof.
     pub fn number(self) -> u64
         ensures { result ≡ file_number self }
     {
@@ -50,9 +52,9 @@ fn time_of(tables: &NetworkTables, n: usize) -> u32
     tables.times[past + n] - tables.times[past]
 }
 
-// Writes the `B` record of a boundary: its number, its time, and its row of the ledger.
-// Buffer and place go apart, as into each call of text_writer: a struct of the two would be taken apart again here. Not network_writer's `Output`: it takes no
-// `u64`, which the totals are, and leaves out a line that has no room, where the contracts here say that all is written.
+// Writes the `B` record of a boundary: its number, its time, and its row of the ledger. Buffer and place are two
+// parameters, as in text_writer. Not network_writer's `Output`: it takes no `u64`, which the totals are, and leaves out
+// a line that has no room, while the contracts here say that all is written.
 fn write_boundary(out: &mut [u8], at: usize, n: usize, time: u32, row: &[u32]) -> usize
     requires { (length row.now ≤ row_size) × (at + 1052 ≤ length out.old) }
     ensures { Wrote (record_text 66 (n ∷ time ∷ row.now)) at out.old out.new result }
@@ -79,7 +81,7 @@ fn write_rows(out: &mut [u8], at: usize, tables: &NetworkTables, ledger: &[u32])
     next
 }
 
-// Writes `A` with the four totals, and the `B` records behind it.
+// Writes `A` with the four totals, and the `B` records after it.
 fn write_accepted(out: &mut [u8], tables: &NetworkTables, ledger: &[u32], totals: Totals) -> usize
     requires { RowsAsked out.old totals_size tables.now.reading.counts tables.now.times.now ledger.now }
     ensures { Wrote (totals_text totals ++ boundary_texts tables.now.reading.counts tables.now.times.now ledger.now) 0 out.old out.new result }

@@ -1,4 +1,4 @@
--- What the stages of the call ask and promise.
+-- What the functions of the call require and promise.
 use Rattle.std.specs.Prelude.{ℕ, ◌+◌, ◌≤◌, ◌<◌, ◌≡◌, List, length}
 use Rattle.base_search.specs.Checks.{verdict, Hold, Verdict}
 use Rattle.text_reader.specs.Lines.{Line, lines}
@@ -26,14 +26,14 @@ SheetIn network table sheet = (r : ℕ) → r < signal_count network → (k : �
 abbrev pub Lawful : List ℕ → List ℕ → Type 0
 Lawful network_text plan_text = (n : ℕ) → n < step_count (lines network_text) → Hold (line_checks (lines network_text) (plan_of network_text plan_text) n)
 
--- an accepted plan is gone through again, with a sheet's durations in the table
+-- a pass over an accepted plan, with a sheet's durations in the table
 pub record PassAsked (plan_text : List ℕ) (tables : NetworkTables) (table : List (List ℕ)) (signals : List Signal) : Type 0 where
   pub loaded : TablesLoaded tables signals
   pub size : length table ≡ max_signals
   pub widths : (r : ℕ) → r < max_signals → length (line_in table r) ≡ sheet_fields
   pub lawful : Lawful tables.text.now plan_text
 
--- how far the steps are gone through: the lines of the next step start at this place, and the signals are those at the boundary
+-- how far the pass is: the lines of the next step start at this place, and the signals are those at the boundary
 pub record PassAt (network_text plan_text : List ℕ) (pass : Pass) (signals : List Signal) : Type 0 where
   pub within : pass.place.boundary ≤ step_count (lines network_text)
   pub time-is : pass.time ≡ time (lines network_text) pass.place.boundary
@@ -46,7 +46,7 @@ pub record PassWatches (network_text plan_text : List ℕ) (table : List (List �
   pub watches : (sheet : List Line) → SheetIn (lines network_text) table sheet
       → WatchesAt (lines network_text) sheet (plan_of network_text plan_text) pass.place.boundary pass.watches
 
--- one step more is asked for, and gone through
+-- the pass takes one step more
 pub record StepAsked (run : Run) (table : List (List ℕ)) (signals : List Signal) (pass : Pass) : Type 0 where
   pub tables : Tables run.tables.now
   pub tram-table : TramTable (lines run.tables.now.text.now) run.trams.now

@@ -1,4 +1,5 @@
--- What is watched of each signal while the steps of an accepted plan are gone through: the numbers of 34 in one pass, by the program's tables.
+-- What is watched of each signal in the pass over the steps of an accepted plan: the numbers of 34, by the program's
+-- tables.
 use Rattle.std.specs.Prelude.{ℕ, ◌+◌, ◌-◌, ◌≤◌, ◌<◌, ◌≡◌, false, cond, not, List, leb, eqb, length, get_or}
 use Rattle.text_reader.specs.Lines.{Line}
 use Rattle.model.specs.declared.Signal.{Signal}
@@ -18,7 +19,7 @@ no_watch = record { tested = false; line = 0; broken = 0 }
 abbrev pub watch_in : List Watch → ℕ → Watch
 watch_in watches r = get_or watches r no_watch
 
--- the line of the first broken run once a run of so many seconds is left, which lasts so many
+-- the line of the first broken run after a run of so many seconds has ended, whose duration is so many
 unfoldable pub first_broken : Watch → ℕ → ℕ → ℕ
 first_broken w seconds lasts = cond (eqb w.broken 0) (cond (w.tested and not (eqb seconds lasts)) w.line 0) w.broken
 

@@ -13,7 +13,7 @@ use model::{MAX_PHASES, Signal};
 // How many numbers a line has at most: a duration for each phase, and an offset.
 pub const SHEET_FIELDS: usize = MAX_PHASES + 1;
 
-// The numbers of a line: a duration for each phase, and the offset behind them.
+// The numbers of a line: a duration for each phase, and the offset after them.
 pub type SheetLine = [u32; SHEET_FIELDS];
 
 // Whether a duration is within the limits of its phase.
@@ -23,7 +23,7 @@ fn is_within(duration: u32, least: u32, greatest: u32) -> bool
     (least..=greatest).contains(&duration)
 }
 
-// Refusal 33, the numbers of a line. A duration goes into the sum only once it is within its limits, so that the sum fits.
+// Refusal 33, the numbers of a line. A duration is added only once it is within its limits, so the sum fits.
 fn valid_numbers(line: &[u32], signal: &Signal, offset: bool) -> bool
     requires { NumbersAsked line.now signal.now (from_bool offset) }
     ensures { result ≡ valid_numbers (from_bool offset) signal.now (number_in line.now) }
@@ -40,7 +40,8 @@ fn valid_numbers(line: &[u32], signal: &Signal, offset: bool) -> bool
     !offset || line[phases] < sum
 }
 
-// Reads the line of a signal, which is lent, and gives the place of the next line if the line is well formed and its numbers are valid.
+// Reads the line of a signal into a lent line; returns the place of the next line if it is well formed and its numbers
+// are valid.
 fn read_line(
     text: &[u8],
     at: usize,

@@ -1,4 +1,4 @@
--- What the stages of the call ask and promise.
+-- What the functions of the call require and promise.
 use Rattle.std.specs.Prelude.{ℕ, ◌≤◌, ◌<◌, ◌≡◌, List, [], length, get_or, Result, Ok}
 use Rattle.base_search.specs.declared.Refusal.{Refusal}
 use Rattle.base_search.specs.Checks.{or_else, verdict, Verdict}

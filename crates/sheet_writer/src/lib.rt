@@ -1,5 +1,5 @@
-// A plan for a fixed-time sheet with offsets (T-10): the call `plan_from_sheet`. The phase that a signal's cycle shows goes from
-// step to step, without a remainder.
+// Writes a plan for a fixed-time sheet with offsets (T-10): the call `plan_from_sheet`. The phase that a signal's cycle
+// shows goes from step to step, without a remainder.
 #![tactic(auto)]
 
 ghost use Rattle.std.specs.Prelude.{◌≡◌, ◌≤◌, length};
@@ -24,8 +24,8 @@ pub struct Run {
     pub remaining: u32,
 }
 
-// The cycle of a signal of so many phases, by its line of a sheet that has passed. The offset stays in the line, behind the durations: the definitions
-// (`CycleLine`, `phase_at`) have both as one function of the place, so that a field for each would be joined again in every contract.
+// The cycle of a signal of so many phases, by its line of a sheet that has passed. The offset stays in the line, after
+// the durations, as in the definitions (`CycleLine`, `phase_at`): two fields would be joined again in every contract.
 #[derive(Clone, Copy)]
 struct Cycle<'a> {
     line: &'a [u32],
@@ -53,7 +53,7 @@ impl Cycle<'_> {
         }
     }
 
-    // The run after a step that fits it: it goes on, or it is just over and that of the next phase begins.
+    // The run after a step that fits it: either it goes on, or it ends with the step and the next phase begins.
     fn next_run(&self, run: Run, seconds: u32) -> Run
         requires { NextAsked self.now.phases run seconds }
         ensures { NextRun (number_in self.now.line.now) self.now.phases run seconds result }
@@ -72,7 +72,7 @@ impl Cycle<'_> {
         }
     }
 
-    // Refusal 35 of signal `r`, whose cycle it is, and its column of the masks: none if a run ends inside a step.
+    // Fills the column of masks of signal `r`, whose cycle it is; none if a run ends inside a step (refusal 35).
     fn fill_column(&self, times: &[u32], r: usize, masks: &mut [[u32; MAX_SIGNALS]]) -> Option<()>
         requires { ColumnAsked times.now r masks.old }
         ensures { ColumnGot (number_in self.now.line.now) self.now.phases times.now r masks.old result masks.new }
@@ -95,11 +95,12 @@ fn has_no_tram(trams: &[Tram], r: usize) -> bool
     requires { r ≤ 8 }
     ensures { result ≡ has_no_tram_in trams.now r }
 {
-    // Every `u32` fits a `usize`: the cast loses nothing.
+    // Each `u32` fits a `usize`: the cast loses nothing.
     trams.iter().all(|tram| tram.signal as usize != r + 1)
 }
 
-// Refusal 35 by rising signal, a signal with tram lines or with a run that ends before the horizon but on no boundary, and the masks of all steps.
+// Fills the masks of all steps. Refusal 35, by rising signal: a signal with tram lines, or with a run that ends before
+// the horizon but on no boundary.
 fn fill_masks(
     trams: &[Tram],
     signals: &[Signal],
@@ -124,7 +125,7 @@ fn fill_masks(
     Ok(())
 }
 
-// The sheet on a network that has passed, whose `T` lines are read again: refusals 33, 35 and 24.
+// Writes the plan of a sheet on a network that has passed, whose `T` lines are read again: refusals 33, 35 and 24.
 fn write_on_network(
     tables: &NetworkTables,
     signals: &[Signal],

@@ -100,7 +100,7 @@ module _ {whole : Whole} (p : Passed whole) where
       }
 
   module _ {halves : Halves} {can : Bool} (c : SplitTold (whole_network whole) halves can) where
-    -- the test told is that of the definitions, before the others
+    -- the result of the test is that of the definitions, before the others
     judged-by : (set : ℕ) → halves.above ≡ set / 2 ^ link_count (whole_network whole) → HalvesBy (whole_network whole) set halves → verdict (part_checks (whole_network whole) (whole_plan whole) set)
         ≡ or_else (checked can 40 0 0) (or_else (checked (parts_signals (whole_network whole) (in_set set)) 41 0 0) (verdict (form_checks (whole_network whole) (whole_plan whole))))
     unfolding part_checks verdict

@@ -1,4 +1,4 @@
--- What the call asks and promises of a network that has passed.
+-- What the call requires and promises of a network that has passed.
 use Rattle.std.specs.Prelude.{ℕ, ◌/◌, ◌^◌, ◌≡◌, Bool, true, false, List, leb, Result, Ok, Err}
 use Rattle.base_search.specs.declared.Refusal.{Refusal}
 use Rattle.base_search.specs.Checks.{refusal, verdict, Hold, Verdict}
@@ -58,7 +58,7 @@ pub record BothHalves (network : List Line) (set : ℕ) (halves : Halves) : Type
   pub parts : parts_signals network (in_set set) ≡ true
   pub numbered : HalvesBy network set halves
 
--- what the writing of both halves asks
+-- what the writing of both halves requires
 pub record WriteAsked (whole : Whole) (halves : Halves) : Type 0 where
   pub passed : Passed whole
   pub held : Held whole.tables.text.now whole

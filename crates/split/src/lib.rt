@@ -1,4 +1,4 @@
-// Two boxes, one corridor (T-14): the call `split`.
+// Splits a network and a plan between two boxes (T-14): the call `split`.
 #![tactic(auto)]
 
 ghost use Rattle.std.specs.Prelude.{◌≡◌};
@@ -13,7 +13,8 @@ use network::Room;
 use network_tables::MAX_SIGNALS;
 use split_tables::{Halves, Whole};
 
-// The buffers of the four texts, lent together. Not one `Four<T>` with `Lengths`: `Four<&mut [u8]>` and `Four<usize>` would stand where names tell them apart.
+// The buffers of the four texts, lent together. `Lengths` is a type of its own: the names say more than one `Four<T>`
+// would.
 #[derive(Drop)]
 struct FourBuffers<'a> {
     network_1: &'a mut [u8],
@@ -22,8 +23,8 @@ struct FourBuffers<'a> {
     plan_2: &'a mut [u8],
 }
 
-// How long the four texts are: they are put where there is no room. Each is written twice, since a buffer that is too short has to leave the other three as they
-// are, and no heap is there to keep the texts.
+// How long the four texts are: they are put where there is no room. Each text is put twice, since one buffer that is
+// too short leaves all four unchanged, and there is no heap to keep the texts.
 fn measure(whole: &Whole, halves: &Halves) -> Lengths
     requires { WriteAsked whole.now halves.now }
     ensures { Measured whole.now halves.now result }
@@ -41,7 +42,7 @@ fn measure(whole: &Whole, halves: &Halves) -> Lengths
     }
 }
 
-// Whether four buffers of these lengths have room. All four are asked, by `&`: the one way out says just what `fits` does.
+// Whether four buffers of these lengths have room. By `&`, not `&&`: with one return the proof has one case.
 fn has_room(lengths: Lengths, room: Lengths) -> bool
     ensures { result ≡ fits lengths room }
 {

@@ -1,5 +1,5 @@
-// Whether a network that has passed can be split by the tables of its halves (T-14: 40, 41), and the form of a plan's lines (9). Tests are joined by `&` and `|`,
-// which ask both sides: a function has one way out to prove.
+// Checks whether a network that has passed can be split by the tables of its halves (T-14: 40, 41), and the form of a
+// plan's lines (9). Tests are joined by `&` and `|`, which evaluate both sides: so a function has one return to prove.
 #![tactic(auto)]
 
 ghost use Rattle.std.specs.Prelude.{◌≡◌, ◌≤◌, ◌<◌, not, eqb, length};
@@ -25,8 +25,9 @@ fn nobody_waits(links: &[Link]) -> bool
     links.iter().all(|link| link.waiting == 0)
 }
 
-// What the border is judged by: a network's tables, whose movements name links, and those of its first half. A movement is asked for by its index, below the
-// count of movements: two tests compare movements by index, and that a movement names links is a fact of its index.
+// What the border is judged by: a network's tables, whose movements name links, and those of its first half. The tests
+// take a movement's index, below the count of movements: two of them compare movements by index, and that a movement
+// names links is known by its index.
 #[derive(Clone, Copy)]
 struct Border<'a> {
     tables: &'a NetworkTables<'a>,
@@ -54,7 +55,8 @@ impl Border<'_> {
         (0..self.tables.reading.counts.movements).all(|k| self.stands_apart(j, k))
     }
 
-    // Whether a movement is no border movement, or leaves a link without a signal, with exit rate 0 and no other movement from it, and enters a link without second border.
+    // Whether a movement is no border movement; or leaves a link without signal, with exit rate 0 and without another
+    // movement, and enters a link without another border movement.
     fn right_kind(&self, j: usize) -> bool
         requires { j < self.now.tables.now.reading.counts.movements }
         ensures { result ≡ right_kind_in self.now.tables.now.links.now self.now.tables.now.movements.now self.now.half.now.links self.now.tables.now.reading.counts.movements j }
@@ -167,7 +169,7 @@ pub fn parts_signals(tables: &NetworkTables, half: &HalfTables) -> bool
     ))
 }
 
-// Whether the `P` line at a place has its form, and where the next starts.
+// The place of the next line, if the `P` line at a place has its form.
 fn line_form(whole: &Whole, at: usize) -> Option<usize>
     requires { FormAsked whole.now.signals.now whole.now.tables.reading.counts }
     ensures { LineForm whole.now.plan.now at whole.now.signals.now whole.now.tables.reading.counts result }
@@ -182,7 +184,7 @@ fn line_form(whole: &Whole, at: usize) -> Option<usize>
     )
 }
 
-// The form of all lines of a plan, and nothing behind them (9).
+// The form of all lines of a plan, and nothing after them (9).
 pub fn plan_form(whole: &Whole) -> Result<(), Refusal>
     requires { FormAsked whole.now.signals.now whole.now.tables.reading.counts }
     ensures { FormTold whole.now.plan.now whole.now.signals.now whole.now.tables.reading.counts result }

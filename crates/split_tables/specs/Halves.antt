@@ -22,7 +22,7 @@ pub record HalvesAsked (tables : NetworkTables) : Type 0 where
   pub ends : (j side : ℕ) → j < tables.reading.counts.movements → side < 2
       → (1 ≤ link_in tables.movements.now side j) × (link_in tables.movements.now side j ≤ tables.reading.counts.links)
 
--- the half of every network that has these tables, of whose links and signals the closures tell which it has
+-- the half of every network that has these tables, with the links and signals that the closures say
 abbrev pub HalfTold : NetworkTables → (ℕ → Bool → Type 0) → (ℕ → Bool → Type 0) → HalfTables → Type 0
 HalfTold tables links_post signals_post half =
     (network : List Line) → CountsHold network tables.reading.counts → MovementTable network tables.movements.now → (h : Half)

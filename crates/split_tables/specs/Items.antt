@@ -7,7 +7,7 @@ use Rattle.model_split.specs.Numbering.{rank}
 abbrev pub Asks : (ℕ → Type 0) → ℕ → Type 0
 Asks pre count = (k : ℕ) → k < count → pre k
 
--- .. and gives this for each
+-- .. and returns this for each
 abbrev pub Gives : {A : Type 0} → (ℕ → A → Type 0) → ℕ → (ℕ → A) → Type 0
 Gives {A} post count f = (k : ℕ) (given : A) → k < count → post k given → given ≡ f k
 

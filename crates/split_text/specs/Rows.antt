@@ -1,4 +1,4 @@
--- The lines of a half by the program's tables, and what the functions that put them ask.
+-- The lines of a half by the program's tables, and what the functions that put them require.
 use Rattle.std.specs.Prelude.{ℕ, ◌+◌, ◌*◌, ◌-◌, ◌≤◌, ◌<◌, ◌≡◌, Bool, not, cond, List, [], ◌∷◌, eqb, length, get_or, Option, Some, None}
 use Rattle.text_reader.specs.Lines.{Line}
 use Rattle.base_laws.specs.Indexed.{list}
@@ -84,7 +84,7 @@ unfoldable pub half_movement_row : List Movement → HalfTables → ℕ → List
 half_movement_row movements half j =
     get_or half.links (link_in movements 0 j - 1) 0 ∷ get_or half.links (link_in movements 1 j - 1) 0 ∷ rate_in movements j ∷ share_in movements j ∷ []
 
--- ---- asked
+-- ---- required
 pub record CountsAsked (counts : Counts) (trams : ℕ) : Type 0 where
   pub few : Few counts
   pub few-trams : trams ≤ max_trams

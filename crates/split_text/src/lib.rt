@@ -1,6 +1,6 @@
-// The texts of one half of a network and of a plan (T-14), put by the half's tables: the numbers of what is in the half, in
-// their old order, with those of border movements added. Lines are written as far as there is room; where a text would end is
-// returned in any case.
+// Writes the texts of one half of a network and of a plan (T-14) by the half's tables: the numbers of what is in the
+// half, in their old order, with those of border movements added. Lines are written as far as there is room; the place
+// where a text ends is returned in any case.
 #![tactic(auto)]
 
 ghost use Rattle.std.specs.Prelude.{◌≡◌, ℕ, ◌+◌, ◌≤◌, ◌-◌, ◌<◌, Bool, length, get_or};
@@ -39,7 +39,8 @@ fn signal_number(half: &HalfTables, signal: u32) -> u32
     half.signals[signal as usize - 1]
 }
 
-// Puts the `N` line. Not a `From`, which may ask nothing, where the casts ask for the counts. A count is far below 2 ^ 32: no cast loses anything.
+// Puts the `N` line. Not a `From`: that can have no precondition, and the casts need one on the counts. A count is far
+// below 2 ^ 32: no cast loses anything.
 fn put_counts(counts: Counts, trams: usize, half: &HalfTables, output: &mut Output)
     requires { CountsAsked counts trams × Early 1 output.old }
     ensures { Put 1 (record_text letter_n (count_row counts trams half.now)) output.old output.new }
@@ -58,7 +59,7 @@ fn put_counts(counts: Counts, trams: usize, half: &HalfTables, output: &mut Outp
     output.put_line(b'N', &row);
 }
 
-// A tram as the half has it, if it follows its signal there.
+// A tram with its signal's number in the half; none if the signal is not there.
 fn tram_kept(tram: Tram, half: &HalfTables) -> Option<Tram>
     requires { tram.signal ≤ max_signals }
     ensures { result ≡ tram_kept half.now tram }
@@ -70,7 +71,7 @@ fn tram_kept(tram: Tram, half: &HalfTables) -> Option<Tram>
     Some(Tram { signal, ..tram })
 }
 
-// Puts the `T` lines that follow their signal into the half.
+// Puts the `T` lines of the half's signals.
 fn put_trams(trams: &[Tram], half: &HalfTables, output: &mut Output)
     requires { TramsAsked trams.now × Early (length trams.now) output.old }
     ensures { Put (length trams.now) (line_texts letter_t (picked (length trams.now) (tram_in trams.now half.now) (half_tram_row trams.now half.now))) output.old output.new }
@@ -78,8 +79,8 @@ fn put_trams(trams: &[Tram], half: &HalfTables, output: &mut Output)
     output.put_rows(b'T', trams, |_, tram| tram_kept(tram, half));
 }
 
-// Puts the `G` lines of the half's signals as they are. The two lines of a turn stand in carry too: a method of `Output` would say the signal's phases and
-// numbers in a contract longer than they are.
+// Puts the `G` lines of the half's signals as they are. carry has the same loop: a method of `Output` would need a
+// contract longer than the loop.
 fn put_signals(whole: &Whole, half: &HalfTables, output: &mut Output)
     requires { SignalsAsked whole.now output.old }
     ensures { Put whole.now.tables.reading.counts.signals (line_texts letter_g (picked whole.now.tables.reading.counts.signals (is_in half.now.signals) (half_signal_row (whole_network whole.now)))) output.old output.new }
@@ -93,8 +94,8 @@ fn put_signals(whole: &Whole, half: &HalfTables, output: &mut Output)
     }
 }
 
-// A link as the half has it, if it is there: the rates of border movements are added to its exit rate. `i` is asked to be one that there can be, as at
-// `network_tables::demand`; so is `j` below.
+// A link with its signal's number in the half, and the rates of border movements added to its exit rate; none if the
+// link is not there. `i` must be below `max_links`, as at `network_tables::demand`; `j` below has such a bound too.
 fn link_kept(i: usize, link: Link, rates: &[u64; MAX_LINKS], half: &HalfTables) -> Option<Link>
     requires { (i < max_links) × (link.signal ≤ max_signals) }
     ensures { result ≡ link_kept rates.now half.now i link }
@@ -126,7 +127,7 @@ fn put_links(
     );
 }
 
-// A movement as the half has it, if it is inside.
+// A movement with its links' numbers in the half; none if it is not inside.
 fn movement_kept(j: usize, movement: Movement, half: &HalfTables) -> Option<Movement>
     requires { (j < max_movements) × LinksNamed movement }
     ensures { result ≡ movement_kept half.now j movement }
@@ -153,7 +154,8 @@ fn put_movements(tables: &NetworkTables, half: &HalfTables, output: &mut Output)
     );
 }
 
-// A number with what the border adds to it. A sum too large for a field is the greatest number, so that the cast loses nothing.
+// A number with what the border adds to it. If the sum is too large for a field, it is the greatest number; so the cast
+// loses nothing.
 fn raised(number: u32, sum: u64) -> u32
     ensures { result ≡ in_field (number + sum) }
 {
@@ -162,7 +164,8 @@ fn raised(number: u32, sum: u64) -> u32
         .min(u64::from(u32::MAX)) as u32
 }
 
-// Adds the number of a border movement to the sum of a link, from 1. Whether it is one is asked here, as the definition has it.
+// Adds a movement's number to the sum of a link, counted from 1, if it is a border movement. The test is in here, as in
+// the definition.
 #[tactic(auto, unfolding(crate::specs::Border::added_at))]
 fn add_at(border: bool, link: usize, number: u32, sums: &mut [u64])
     requires { (1 ≤ link) × (link ≤ length sums.old) × (get_or sums.old (link - 1) 0 ≤ 1_000_000_000_000) }
@@ -173,8 +176,8 @@ fn add_at(border: bool, link: usize, number: u32, sums: &mut [u64])
     }
 }
 
-// Which of a movement's two links: the one that it leaves, or the one that it enters. A name, not a closure: `add_border` would ask of one that it gives a link
-// that is there, and promise its sums by it, as it does by `number_of`.
+// One of a movement's two links: the one that it leaves, or the one that it enters. Not a closure, as `number_of` is:
+// `add_border` would have to require that it returns a link of the network.
 #[derive(Clone, Copy)]
 enum Side {
     From,
@@ -212,7 +215,8 @@ fn add_border<F: Fn(usize) -> u32>(
     sums
 }
 
-// Lent numbers of a line, and the place where the next is put. Not an `Output`, which is of bytes, and whose place may lie behind its end.
+// Lent numbers of a line, and the place where the next is put. Not an `Output`, which has bytes, and whose place may
+// lie past its end.
 #[derive(Drop)]
 struct Row<'a> {
     numbers: &'a mut [u32],
@@ -236,8 +240,8 @@ impl Row<'_> {
     }
 }
 
-// Reads the numbers of a `P` line that has passed into a line of zeros, and gives the place of the next. A plan without bytes has no such line, and is not to be
-// read again as the others are.
+// Reads the numbers of a `P` line that has passed into a line of zeros; returns the place of the next. Not by
+// `read_again`: a plan without bytes has no such line, and its numbers are made.
 fn read_plan(whole: &Whole, at: usize, line: &mut [u32]) -> usize
     requires { LineAsked whole.now.signals.now whole.now.tables.reading.counts line.old }
     ensures { PlanLineRead whole.now at line.old result line.new }
@@ -252,7 +256,8 @@ fn read_plan(whole: &Whole, at: usize, line: &mut [u32]) -> usize
     .unwrap_or(at)
 }
 
-// Puts the `S` line of the next step, with the volumes of border movements as demand, and gives the place of the lines behind it.
+// Puts the `S` line of the next step, with the volumes of border movements as demand, and returns the place of the
+// lines after it.
 fn put_step(whole: &Whole, half: &HalfTables, place: Place, output: &mut Output) -> Place
     requires { StepAsked whole.now half.now place output.old }
     ensures { StepPut whole.now half.now place output.old output.new result }
@@ -283,7 +288,8 @@ fn put_step(whole: &Whole, half: &HalfTables, place: Place, output: &mut Output)
     }
 }
 
-// Puts the `P` line of the next step, with the volumes of border movements added to what is admitted and let out, and gives the place of the line behind it.
+// Puts the `P` line of the next step, with the volumes of border movements added to what is admitted and let out, and
+// returns the place of the line after it.
 fn put_plan_line(whole: &Whole, half: &HalfTables, at: usize, output: &mut Output) -> usize
     requires { PlanLineAsked whole.now half.now at output.old }
     ensures { LinePut whole.now half.now at output.old output.new result }

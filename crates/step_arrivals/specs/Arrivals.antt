@@ -1,5 +1,6 @@
--- The step of the timeline in which a travel time ends, by a table that has the time of each boundary. Not of the paper: that these are the paper's, where the
--- table holds a network's times, stands in proofs/Boundaries.antt.
+-- The step of the timeline in which a travel time ends, by a table that has the time of each boundary. These
+-- definitions are not the paper's: proofs/Boundaries.antt shows that they agree with it if the table holds a network's
+-- times.
 use Rattle.std.specs.Prelude.{ℕ, zero, suc, ◌+◌, ◌*◌, ◌-◌, ◌≤◌, ◌<◌, cond, List, leb, length, get_or}
 
 -- the last of the first n steps that starts by time x

@@ -5,12 +5,12 @@ use Rattle.base_laws.specs.Test.{◌and◌, within, every}
 use Rattle.model.specs.Network.{max_steps, past_count, step_count, timeline_length, timeline_time}
 use Rattle.network_tables.specs.Fields.{time_table_size}
 
--- what setting the time at the end of step m asks, where the steps before it are timed ..
+-- what setting the time at the end of step m requires, where the steps before it are timed ..
 pub record TimeAsked (times : List ℕ) (m : ℕ) (timed : Bool) : Type 0 where
   pub room : timed ≡ true → m + 1 < length times
   pub small : timed ≡ true → get_or times m 0 ≤ 7200
 
--- .. and gives
+-- .. and promises
 pub record TimeSet (before : List ℕ) (m seconds : ℕ) (timed result : Bool) (after : List ℕ) : Type 0 where
   pub told : result ≡ (timed and within 1 seconds 60)
   pub size : length after ≡ length before

@@ -1,5 +1,5 @@
-// When vehicles arrive: the step in which a link's travel time before a boundary ends, and what has arrived by then. Steps and
-// boundaries are the timeline's here, by a table of its boundaries' times.
+// When vehicles arrive: the step in which a link's travel time before a boundary ends, and what has arrived by then.
+// Steps and boundaries here are those of the timeline; a table has the times of its boundaries.
 #![tactic(auto)]
 
 ghost use Rattle.std.specs.Prelude.{◌≡◌, ◌+◌, ◌-◌, ◌<◌, ◌≤◌, length};
@@ -8,8 +8,9 @@ ghost use Rattle.step_arrivals.specs.Timed.{TimeAsked, TimeSet};
 
 use network_tables::MAX_SECONDS;
 
-// Sets the time at the end of step `m`, if it and all steps before it last 1 to 60 seconds; else the table is kept. Whether they do goes in and comes out as a
-// `bool`, as `Reading.timed` has it: 30 is told after all lines, so that no line is refused for it.
+// Sets the time at the end of step `m`, if it and all steps before it last 1 to 60 seconds; otherwise the table is
+// unchanged. `timed` says it of the steps before, the result of all: refusal 30 is reported after all lines, so no line
+// is refused for it.
 pub fn next_time(times: &mut [u32], m: usize, seconds: u32, timed: bool) -> bool
     requires { TimeAsked times.old m timed }
     ensures { TimeSet times.old m seconds timed result times.new }
@@ -21,15 +22,16 @@ pub fn next_time(times: &mut [u32], m: usize, seconds: u32, timed: bool) -> bool
     valid
 }
 
-// The step in which `boundary`'s time minus the travel time lies: the cursor of one link, which starts at a step that was found before and only moves on, so
-// that the work over all steps is linear. The step after it starts too late, so that no other test ends the search.
+// The step in which `boundary`'s time minus the travel time lies. The search starts at the step that was found for an
+// earlier boundary and only moves on, so the work over all steps is linear. The step after the one that is found starts
+// too late; that alone ends the search.
 pub fn arrival_step(times: &[u32], from: usize, boundary: usize, travel: u32) -> usize
     requires { Cursor times.now from boundary travel }
     ensures { result ≡ arrival_step_in times.now boundary travel }
 {
     let latest = times[boundary].saturating_sub(travel);
     let mut m = from;
-    // No `for`: nothing is counted to an end, and the table's end is no end of the search.
+    // A `while`: the search has no fixed end.
     while times[m + 1] <= latest {
         m += 1;
     }

@@ -73,7 +73,7 @@ step_rules_in step previous row = rules_in step previous (made_row step previous
 pub record RuleRows (step : Step) (previous row : List ℕ) (rule : Rule) : Type 0 where
   pub sum-rows : (sum : SumRule) → rule ≡ Sum sum → SumRows step previous row
 
--- what the judgement of a step asks, by the row before it and a row that is lent: the sums fit once the limits of the volumes are kept
+-- what the judgement of a step requires, by the row before it and a row that is lent: the sums fit once the limits of the volumes are kept
 pub record JudgeAsked (step : Step) (previous row : List ℕ) : Type 0 where
   pub row-size : length row ≡ row_size
   pub fits : LimitsKept step → Fits step.counts step.plan_line.now step.movements.now previous row

@@ -15,7 +15,8 @@ use step_rows::Step;
 use step_signals::SignalRule;
 use step_sums::{StepRows, SumRule};
 
-// A rule that a step keeps, by its family. By `match` and not by a trait: each family is asked of other things, a signal and its phases, a step, or a step with its rows.
+// A rule that a step keeps, by its family. A `match`, not a trait: the families take different things, a signal and its
+// phases, a step, or a step with its rows.
 #[derive(Clone, Copy)]
 enum Rule {
     Signal(SignalRule),
@@ -23,7 +24,7 @@ enum Rule {
     Sum(SumRule),
 }
 
-// The rules in the order in which they are asked.
+// The rules in the order in which they are tested.
 const RULES: [Rule; 13] = [
     Rule::Signal(SignalRule::OnePhase),
     Rule::Signal(SignalRule::TramPhase),
@@ -52,7 +53,7 @@ impl Rule {
         }
     }
 
-    // To how many items it is put.
+    // How many items it is tested for.
     fn items(self, counts: Counts) -> usize
         ensures { result ≡ rule_items counts self }
     {
@@ -63,7 +64,8 @@ impl Rule {
         }
     }
 
-    // Whether it holds of an item. The rows stand beside the step, since the rules before the sums are asked without a row after it.
+    // Whether it holds of an item. The rows are separate parameters, since the rules before the sums are tested before
+    // the row after the step is formed.
     fn holds(self, step: &Step, previous: &[u32], row: &[u32], item: usize) -> bool
         requires rule_rows { RuleRows step.now previous.now row.now self }
         requires item_bound { item < rule_items step.now.counts self }
@@ -89,8 +91,8 @@ impl Rule {
     }
 }
 
-// Forms the row after the step when the search comes to rule 16: all limits are known to hold then, which is why it is tested in the search and the row is not
-// formed before it.
+// Forms the row after the step when the search comes to rule 16. Not before: only then are all limits known to hold, so
+// that the row's numbers fit.
 fn form_row_for(rule: Rule, step: &Step, previous: &[u32], row: &mut [u32])
     requires { rule ≡ first_sum → Fits step.now.counts step.now.plan_line.now step.now.movements.now previous.now row.old }
     ensures { FormedFor rule step.now previous.now row.old row.new }
@@ -100,8 +102,9 @@ fn form_row_for(rule: Rule, step: &Step, previous: &[u32], row: &mut [u32])
     }
 }
 
-// The first rule that the step breaks, by the rules in their order, each over rising items; it names the plan's line of the step. By nested loops that a label leaves
-// at the first break, as the paper has it for rules 10 to 18.
+// The refusal of the first rule that the step breaks, in the order of the rules, each over rising items; its line is
+// the step's line of the plan. Nested loops with a label that is left at the first break, as the paper asks for rules
+// 10 to 18.
 fn first_break(step: &Step, previous: &[u32], row: &mut [u32]) -> Result<(), Refusal>
     requires { JudgeAsked step.now previous.now row.old }
     ensures { Judged step.now previous.now row.old result row.new }
@@ -142,7 +145,7 @@ fn keeps_rules(step: &Step, previous: &[u32], row: &mut [u32]) -> bool
     rows.keeps_sums()
 }
 
-// Judges a step, and forms the row after it in a row that is lent.
+// Judges a step, and forms the row after it in a lent row.
 pub fn judge_step(step: &Step, row: &mut [u32]) -> Result<(), Refusal>
     requires { JudgeAsked step.now (row_before step.now) row.old }
     ensures { Judged step.now (row_before step.now) row.old result row.new }

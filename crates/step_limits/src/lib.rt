@@ -20,8 +20,8 @@ pub enum LimitRule {
     OpenLink,
 }
 
-// A volume is at most what a rate lets through in so many seconds: both are small enough for 32 bits. That a step has at most 60 is asked here as in step_signals, whose
-// line at the tests of rules 11 to 14 says why.
+// Whether a volume is at most rate × seconds; the product fits 32 bits. That a step has at most 60 seconds is required
+// here, as in step_signals, which says why at its tests of rules 11 to 14.
 fn within_rate(volume: u32, rate: u32, seconds: u32) -> bool
     requires { (rate ≤ 10000) × (seconds ≤ 60) }
     ensures { result ≡ leb volume (rate * seconds) }
@@ -29,9 +29,10 @@ fn within_rate(volume: u32, rate: u32, seconds: u32) -> bool
     volume <= rate * seconds
 }
 
-// The tests below take an item's place, and each asks that it is one of the step's: a step with a place would be made anew for each item.
+// The tests below take an item's index, and each requires that the step has this item: a struct of step and index would
+// be made for each item.
 
-// 15, link i: admitted is at most who is at its entry, those who wait and the step's demand.
+// 15, link i: admitted is at most those at its entry, who wait there or come in the step.
 #[tactic(auto, unfolding(crate::specs::Limits::admits_offer))]
 fn admits_offer(step: &Step, i: usize) -> bool
     requires { i < step.now.counts.links }
@@ -72,7 +73,7 @@ fn moves_rate(step: &Step, j: usize) -> bool
     within_rate(volume, step.movements[j].rate, step.step_line[0])
 }
 
-// 27, movement j: it is 0 if its from link is shut. Most are 0, so that this is asked first.
+// 27, movement j: it is 0 if its from link is shut. Most are 0, so this is tested first.
 fn moves_open(step: &Step, j: usize) -> bool
     requires { j < step.now.counts.movements }
     ensures { result ≡ moves_open step.now j }
@@ -81,7 +82,8 @@ fn moves_open(step: &Step, j: usize) -> bool
 }
 
 impl LimitRule {
-    // Its number in the paper. By a match: as discriminants, a wrong program that gives two variants one number would not compile.
+    // Its number in the paper. A `match`, not discriminants: with these, a wrong program that gives two variants one
+    // number would not compile, and so would test no proof.
     pub fn number(self) -> u32
         ensures { result ≡ limit_rule_number self }
     {
@@ -93,7 +95,7 @@ impl LimitRule {
         }
     }
 
-    // To how many items it is put.
+    // How many items it is tested for.
     pub fn items(self, counts: Counts) -> usize
         ensures { result ≡ limit_items counts self }
     {

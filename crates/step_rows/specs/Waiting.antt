@@ -16,7 +16,7 @@ waiting_in waiting i = get_or waiting i 0
 abbrev pub offer_in : List ℕ → ℕ → ℕ
 offer_in step i = demand_in step i
 
--- what the table at the start asks of the network's links, and gives for the first n of them
+-- what the table at the start requires of the network's links, and promises for the first n of them
 pub record FirstAsked (links : List Link) (waiting : List ℕ) : Type 0 where
   pub few : length links ≤ max_links
   pub size : length waiting ≡ max_links
@@ -25,19 +25,19 @@ pub record FirstWaits (links : List Link) (n : ℕ) (waiting : List ℕ) : Type 
   pub size : length waiting ≡ max_links
   pub starts : (i : ℕ) → i < n → waiting_in waiting i ≡ waiting_at_start_in links i
 
--- what adding those who wait, one number a link, to a step's demand asks ..
+-- what adding those who wait, one number a link, to a step's demand requires ..
 pub record AddAsked (waiting step : List ℕ) : Type 0 where
   pub few : length waiting ≤ max_links
   pub step-size : length step ≡ step_size
   pub fits : (i : ℕ) → i < length waiting → demand_in step i + waiting_in waiting i < 4294967296
 
--- .. and gives for the first so many links
+-- .. and promises for the first so many links
 pub record Offers (links : ℕ) (waiting step result : List ℕ) : Type 0 where
   pub size : length result ≡ step_size
   pub lasts : length_in result ≡ length_in step
   pub offers : (i : ℕ) → i < links → offer_in result i ≡ demand_in step i + waiting_in waiting i
 
--- what the table after a step asks: no link admits more than is at its entry
+-- what the table after a step requires: no link admits more than is at its entry
 pub record WaitsAsked (counts : Counts) (step line waiting : List ℕ) : Type 0 where
   pub few : Few counts
   pub step-size : length step ≡ step_size

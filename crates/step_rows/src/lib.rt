@@ -1,6 +1,6 @@
-// A step of a plan as it is judged, the row of the ledger after it, its writing through a part of the lent ledger, the sums that go into
-// the totals, and who waits at the entries. The table of those who wait has one number a link: who waited at the start and came since,
-// and was not admitted.
+// A step of a plan as it is judged, the ledger's row after it and how it is written, the sums for the totals, and who
+// waits at the entries. The table of those who wait has one number a link: those who waited at the start or came since,
+// and were not admitted.
 #![tactic(auto)]
 
 ghost use Rattle.std.specs.Prelude.{◌≡◌, ◌++◌, ◌+◌, ◌*◌, ◌-◌, ◌/◌, ◌<◌, ◌≤◌, length, take, drop};
@@ -146,8 +146,8 @@ pub fn all_let_out(line: &[u32], counts: Counts) -> u64
     sum_of(&line[let_out_at..let_out_at + counts.links])
 }
 
-// The vehicles in the network at a boundary: what all links hold, by its row, which has two numbers a link. By a loop: in the closure of a sum over the links,
-// what `entered` asks of the row did not follow.
+// The vehicles in the network at a boundary: what all links hold, by its row, which has two numbers a link. A loop: in
+// the closure of a sum over the links, the precondition of `entered` on the row can't be shown.
 pub fn held_in(row: &[u32]) -> u64
     requires { length row.now ≤ 2 * max_links }
     ensures { (result ≡ sum (length row.now / 2) (λ i. entered_in row.now i - left_in row.now i)) × (result ≤ 4294967295 * (length row.now / 2)) }
@@ -178,8 +178,8 @@ pub fn add_waiting(waiting: &[u32], step: &mut [u32])
     network_tables::add_each(waiting, &mut step[1..]);
 }
 
-// Who waits after a step that is kept: who was at the entry in the step and was not admitted. The counts stand beside the tables, which go together by one index
-// and have each its own start in the line.
+// Who waits after a step that keeps every rule: those who were at the entry in the step and were not admitted. By
+// index: the tables go together, and each starts elsewhere in the line.
 pub fn next_waiting(step: &[u32], line: &[u32], counts: Counts, waiting: &mut [u32])
     requires { WaitsAsked counts step.now line.now waiting.old }
     ensures { Waits counts step.now line.now counts.links waiting.new }

@@ -9,7 +9,6 @@ use Rattle.step_signals.specs.declared.SignalRule.{SignalRule}
 use Rattle.step_signals.specs.declared.SignalRule.TheVariants.{OnePhase, TramPhase, Order, LeastTime, GreatestTime, Cycle}
 use Rattle.step_signals.specs.Ready.{AllReady}
 
--- the number of a rule
 abbrev pub signal_rule_number : SignalRule → ℕ
 signal_rule_number OnePhase = 10
 signal_rule_number TramPhase = 29
@@ -47,7 +46,7 @@ signal_rule_holds signals phases asked seconds rule r = signal_test rule (signal
 abbrev pub SignalRulesKept : List Signal → ℕ → List ℕ → List ℕ → ℕ → Type 0
 SignalRulesKept signals n phases asked seconds = (r : ℕ) → r < n → (rule : SignalRule) → signal_rule_holds signals phases asked seconds rule r ≡ true
 
--- what these ask of the tables
+-- what these require of the tables
 pub record SignalTables (signals : List Signal) (count : ℕ) (phases asked : List ℕ) (seconds : ℕ) : Type 0 where
   pub few : count ≤ max_signals
   pub size : length signals ≡ max_signals

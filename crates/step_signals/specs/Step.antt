@@ -25,7 +25,7 @@ pub record HeldMasks (signals : List Signal) (n : ℕ) (before line : List ℕ) 
   pub held : (r : ℕ) → r < n → get_or line r 0 ≡ 2 ^ ((signal_at signals r).shown - 1)
   pub kept : (r : ℕ) → n ≤ r → get_or line r 0 ≡ get_or before r 0
 
--- what stepping signals on asks of the tables
+-- what stepping signals on requires of the tables
 pub record AdvanceAsked (signals : List Signal) (count : ℕ) (phases asked : List ℕ) (seconds : ℕ) : Type 0 where
   pub few : count ≤ max_signals
   pub size : length signals ≡ max_signals

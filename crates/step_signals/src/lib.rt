@@ -23,9 +23,10 @@ pub enum SignalRule {
     Cycle,
 }
 
-// The phase, among 1 to `phases`, whose bit is all of the mask; 0 where there is none, which breaks rule 10 (C7). The count of ones tests that one
-// bit is set; the trailing zeros are its place. A number and not an option: by tables of options, for what is shown and what trams ask, the largest plan misses the
-// bar of 1.45 x the twin (the C check of bench/twin.c).
+// The phase, among 1 to `phases`, whose bit is all of the mask; 0 where there is none, which breaks rule 10 (C7). The
+// count of ones tests that one bit is set; the trailing zeros are its place. A number, not an `Option`: with tables of
+// options, for what is shown and what trams ask, the largest plan misses the bar of 1.45 x the twin (the C check of
+// bench/twin.c).
 pub fn phase_of(mask: u32, phases: u32) -> u32
     ensures { result ≡ phase_of mask phases }
 {
@@ -38,7 +39,8 @@ pub fn phase_of(mask: u32, phases: u32) -> u32
     0
 }
 
-// Where a phase's times and its bit stand: phase k's at k - 1. Phase 0, which is none, goes with phase 1, so that no rule leans on rule 10.
+// The index of a phase's times and of its bit: k - 1 for phase k. Phase 0, which is none, has the index of phase 1, so
+// that no rule depends on rule 10.
 pub fn place_of(phase: u32) -> usize
     ensures { result ≡ phase - 1 }
 {
@@ -116,8 +118,8 @@ fn clock_after(signal: Signal, phase: u32, seconds: u32) -> u32
     }
 }
 
-// The tests of rules 11 to 14 take the signal by value, as the paper has the light. What they ask of it, of the phase and of the seconds stays in each contract: a struct
-// that had it would take the light's place.
+// The tests of rules 11 to 14 take the signal by value, as the paper has the light. What they require of it, of the
+// phase and of the seconds stays in each contract: a struct with these facts would replace the light.
 
 // Rule 11 (C8): the phase is that of the step before or the next.
 fn keeps_order(signal: Signal, phase: u32) -> bool
@@ -172,7 +174,8 @@ fn after(signal: Signal, phase: u32, seconds: u32) -> Signal
 }
 
 impl SignalRule {
-    // Its number in the paper. By a match: as discriminants, a wrong program that gives two variants one number would not compile.
+    // Its number in the paper. A `match`, not discriminants: with these, a wrong program that gives two variants one
+    // number would not compile, and so would test no proof.
     pub fn number(self) -> u32
         ensures { result ≡ signal_rule_number self }
     {
@@ -204,8 +207,8 @@ impl SignalRule {
     }
 }
 
-// Whether a signal that shows a phase keeps rules 10 to 14, as an ordinary step asks.
-// Phase, asked and seconds go beside the signal here and below: a struct of them would be made anew for each signal.
+// Whether a signal that shows a phase keeps rules 10 to 14, as an ordinary step asks. Phase, asked and seconds are
+// parameters here and below: a struct of them would be made for each signal.
 fn keeps_ordinary_rules(signal: Signal, phase: u32, seconds: u32) -> bool
     requires ready { Ready signal }
     requires phase_bound { phase ≤ 8 }
@@ -217,9 +220,11 @@ fn keeps_ordinary_rules(signal: Signal, phase: u32, seconds: u32) -> bool
     (1 <= phase) & ordered & timed
 }
 
-// Whether a signal goes on with its phase, and neither the phase nor the cycle lasts too long. Then it keeps rules 10 to 14, as most do in most steps: without this
-// test the largest plan misses the bar of 1.45 x the twin. The sums are written out: by rule 13's own test it misses that bar too, and rule 14's own test asks more
-// yet, whether phase 1 begins again. The phase's greatest time stands beside the signal: found in the copy, the largest plan takes 0.8 % more.
+// Whether a signal goes on with its phase, and neither the phase nor the cycle lasts too long. Then it keeps rules 10
+// to 14, as most signals do in most steps: without this test the largest plan misses the bar of 1.45 x the twin. The
+// sums are written out: with rule 13's own test it misses that bar too, and rule 14's own test does more, since it also
+// looks whether phase 1 begins again. The phase's greatest time stands beside the signal: found in the copy, the
+// largest plan takes 0.8 % more.
 fn goes_on(signal: Signal, greatest: u32, phase: u32, seconds: u32) -> bool
     requires ready { Ready signal }
     requires of_phase { greatest ≡ greatest_time signal phase }
@@ -231,8 +236,8 @@ fn goes_on(signal: Signal, greatest: u32, phase: u32, seconds: u32) -> bool
     goes & in_time & (signal.cycle_clock + seconds <= signal.greatest_cycle)
 }
 
-// Whether a signal keeps all six: where a tram asks a phase of it, 10 and 29; else asked first whether it goes on. It alone lends the signal: by value,
-// the plan with a tram in every step takes 0.4 % more.
+// Whether a signal keeps all six rules: 10 and 29 if a tram asks a phase of it, otherwise 10 to 14, with the short test
+// first whether it goes on. It alone lends the signal: by value, the plan with a tram in every step takes 0.4 % more.
 fn signal_keeps(signal: &Signal, phase: u32, asked: u32, seconds: u32) -> bool
     requires ready { Ready signal.now }
     requires phase_bound { phase ≤ 8 }
@@ -246,8 +251,8 @@ fn signal_keeps(signal: &Signal, phase: u32, asked: u32, seconds: u32) -> bool
     goes_on(*signal, greatest, phase, seconds) || keeps_ordinary_rules(*signal, phase, seconds)
 }
 
-// Whether all signals keep the six rules, in one pass over them: most steps break none, and then it doesn't matter which rule is asked first. The count stands beside the
-// tables, which all have it and are whole. By index: three of them go together.
+// Whether all signals keep the six rules, in one pass over them: if none is broken, the order of the rules doesn't
+// matter. By index: three tables go together, which have room for eight signals.
 pub fn keeps_signal_rules(
     signals: &[Signal],
     count: usize,

@@ -26,7 +26,7 @@ pub enum SumRule {
 }
 
 impl StepRows<'_> {
-    // Each test below asks that its item is one of the step's, as those of `step_limits` do, and for their reason.
+    // Each test below requires that the step has its item, as those of `step_limits` do, for the same reason.
 
     // The sum of all movements from link i: what has left it in the step, without what was let out.
     fn moved_from(&self, i: usize) -> u32
@@ -37,8 +37,8 @@ impl StepRows<'_> {
         left(self.row, i) - left(self.previous, i) - let_out
     }
 
-    // Rule 16, movement j: 1000 × the movement is at most its share × the sum of all movements from its link. Most are 0, and
-    // keep every share.
+    // Rule 16, movement j: 1000 × the movement is at most its share × the sum of all movements from its link. Most
+    // movements are 0, and a 0 keeps every share.
     fn keeps_share(&self, j: usize) -> bool
         requires { j < self.now.step.now.counts.movements }
         ensures { result ≡ keeps_share self.now.step.now j }
@@ -52,7 +52,8 @@ impl StepRows<'_> {
         network_tables::product(WHOLE_SHARE, volume) <= network_tables::product(share, all)
     }
 
-    // Entered of link i at the start of the step of the timeline in which its travel time ends: a past one's as it arrived, a later one's as the ledger has it.
+    // entered of link i at the start of the timeline's step in which its travel time ends: of a past step from
+    // `arrivals`, of a later one from the ledger.
     fn entered_before(&self, i: usize) -> u32
         requires { i < self.now.step.now.counts.links }
         ensures { result ≡ entered_before self.now.step.now i }
@@ -66,8 +67,8 @@ impl StepRows<'_> {
         entered_at(step.ledger, step.counts.links, boundary, i)
     }
 
-    // Entered of link i at the end of that step: of the row after the step that is judged, or of the ledger, which has the rows before that; of a past step as it
-    // arrived.
+    // entered of link i at the end of that step: of a past step from `arrivals`; of the step that is judged from the
+    // row after it, of an earlier one from the ledger.
     fn entered_after(&self, i: usize) -> u32
         requires { i < self.now.step.now.counts.links }
         ensures { result ≡ entered_after self.now.step.now self.now.row.now i }
@@ -84,8 +85,9 @@ impl StepRows<'_> {
         entered_at(step.ledger, step.counts.links, boundary + 1, i)
     }
 
-    // Rule 17, link i: what has left it is at most what has arrived at its end, both × the length of the step in which the travel time ends, so that nothing is
-    // rounded. What had entered by that step's start has arrived, and often that is enough.
+    // Rule 17, link i: what has left it is at most what has arrived at its end, both × the length of the step in which
+    // the travel time ends, so that nothing is rounded. All that had entered by that step's start has arrived; often
+    // that is enough, and no product is needed.
     fn leaves_arrived(&self, i: usize) -> bool
         requires { i < self.now.step.now.counts.links }
         ensures { result ≡ leaves_arrived self.now.step.now self.now.row.now i }
@@ -109,7 +111,7 @@ impl StepRows<'_> {
             <= step_arrivals::scaled_arrived(start, end, seconds, elapsed)
     }
 
-    // Rule 18, link i: entered − left before the step is at most capacity, said without the difference.
+    // Rule 18, link i: entered − left before the step is at most capacity, written without the subtraction.
     fn fits_capacity(&self, i: usize) -> bool
         requires { i < self.now.step.now.counts.links }
         ensures { result ≡ fits_capacity self.now.step.now self.now.previous.now self.now.row.now i }
@@ -118,7 +120,8 @@ impl StepRows<'_> {
         u64::from(entered(self.row, i)) <= capacity + u64::from(left(self.previous, i))
     }
 
-    // Whether all movements keep 16, in one pass over them. By index here and below, since a rule is asked of an item by its index.
+    // Whether all movements keep 16, in one pass over them. By index here and below, since a rule takes an item's
+    // index.
     fn keeps_shares(&self) -> bool
         ensures { result ≡ true → SharesKept self.now.step.now self.now.step.now.counts.movements }
     {
@@ -141,7 +144,8 @@ impl StepRows<'_> {
 }
 
 impl SumRule {
-    // Its number in the paper. By a match: as discriminants, a wrong program that gives two variants one number would not compile.
+    // Its number in the paper. A `match`, not discriminants: with these, a wrong program that gives two variants one
+    // number would not compile, and so would test no proof.
     pub fn number(self) -> u32
         ensures { result ≡ sum_rule_number self }
     {
@@ -152,7 +156,7 @@ impl SumRule {
         }
     }
 
-    // To how many items it is put.
+    // How many items it is tested for.
     pub fn items(self, counts: Counts) -> usize
         ensures { result ≡ sum_items counts self }
     {

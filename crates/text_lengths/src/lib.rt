@@ -1,2 +1,2 @@
-// How long a text can be that passes or is written: the greatest lengths of the header, as theorems. No code.
+// The greatest lengths of texts that pass or are written, as the header has them: theorems. No code.
 #![tactic(auto)]

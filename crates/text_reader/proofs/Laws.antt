@@ -76,7 +76,7 @@ module _ (letter n : ℕ) (line : Line) where
   unfolding number number_of
   record-past e k h = ap number_of (List·getD-eq-default line.fields None (omega (arith, (parts letter n line e).count)))
 
--- ---- what a read tells
+-- ---- what a read shows
 -- a line that was read
 pub record Read (letter n : ℕ) (text : List ℕ) (at next : ℕ) : Type 0 where
   pub formed : is_record letter n (line_at text at) ≡ true

@@ -1,4 +1,4 @@
--- A field that says a number, by its bytes.
+-- The number that a field's bytes stand for.
 use Rattle.std.specs.Prelude.{ℕ, ◌+◌, ◌-◌, ◌*◌, Bool, true, cond, ◌&&◌, length, leb, Option, Some, None}
 use mathlib.Core.List.{List, [], ◌∷◌, foldl}
 

@@ -29,7 +29,7 @@ SameLine a b = (get_or (split 9 a) 0 [] ≡ get_or (split 9 b) 0 []) × Pairwise
 unfoldable pub SameText : List ℕ → List ℕ → Type 0
 SameText a b = Pairwise SameLine (split 10 a) (split 10 b)
 
--- Padding plays no part (T-03): what is said of a text, as of a call's answer and of all that it writes, holds of every text that differs from it only in padding.
--- Of several texts it is said of one inside the other.
+-- Padding makes no difference (T-03): what holds of a text, such as a call's answer and all that it writes, holds of
+-- every text that differs from it only in padding. For several texts the definition is used one inside the other.
 abbrev pub PaddingIgnored : List ℕ → (List ℕ → Type 0) → Type 0
 PaddingIgnored text Said = (padded : List ℕ) → SameText text padded → Said padded

@@ -40,8 +40,8 @@ pub struct LineNumber {
     pub next: usize,
 }
 
-// The number of the field after a tab, and which byte ends that field. No `Option`: where the byte behind a number is tested again for the next one, the largest
-// plan misses the bar of 1.45 x the twin (bench/twin.c).
+// The number of the field after a tab, and which byte ends that field. Not an `Option`: if the byte after a number is
+// tested again for the next one, the largest plan misses the bar of 1.45 x the twin (bench/twin.c).
 #[derive(Clone, Copy)]
 enum Ended {
     ByTab(FieldNumber),
@@ -49,8 +49,8 @@ enum Ended {
     Neither,
 }
 
-// Whether the numbers that were asked for are the last of their line: the place of the next line; or more follows, or one is missing. `line_at` and `head_at` part
-// them in two ways.
+// How the numbers that were read end: they are the last of their line, with the place of the next line; more follows
+// them; or one is missing. `line_at` refuses the last two, `head_at` only the last.
 #[derive(Clone, Copy)]
 enum Numbers {
     Last(usize),
@@ -58,7 +58,7 @@ enum Numbers {
     Missing,
 }
 
-// On 32 bits: by `is_ascii_digit` of the byte the largest plan misses the bar of 1.45 x the twin (bench/twin.c).
+// On 32 bits: with `is_ascii_digit` of the byte the largest plan misses the bar of 1.45 x the twin (bench/twin.c).
 fn is_digit(b: u32) -> bool
     ensures { result ≡ digit b }
 {
@@ -89,8 +89,9 @@ fn shifted(value: u32, b: u32) -> Option<u32>
     value.checked_mul(10)?.checked_add(b - ZERO)
 }
 
-// The number whose digits start at a place, and the place where its field ends: each place is held against the end of the text. Ten turns at most, which the
-// compiler unrolls: it finds that only a tenth digit can lack room. Inlined, for check_plan's speed (docs/MEASUREMENTS.md).
+// The number whose digits start at a place, and the place where its field ends: each place is compared with the end of
+// the text. Ten turns at most, which the compiler unrolls: it finds that only a tenth digit can exceed 32 bits.
+// Inlined, for check_plan's speed (docs/MEASUREMENTS.md).
 #[inline(always)]
 fn digits_from(text: &[u8], from: usize) -> Option<FieldNumber>
     requires { from ≤ length text.now }
@@ -108,7 +109,7 @@ fn digits_from(text: &[u8], from: usize) -> Option<FieldNumber>
         if !is_digit(b) {
             return None;
         }
-        // More digits never bring a number down, so it is given up here.
+        // More digits never make a number smaller, so none is read after it exceeds 32 bits.
         value = shifted(value, b)?;
     }
     let next = text.len().min(from + MAX_DIGITS);
@@ -154,10 +155,11 @@ fn guarded_numbers_at(text: &[u8], at: usize, out: &mut [u32]) -> Numbers
     }
 }
 
-// The number of the digits at a place, ten at most, and the place behind them, in a text that a line feed ends. The line feed is the sentinel: no digit is
-// the last byte, so no place is held against the end. Each of the three functions that rest on it asks for it: a struct that lends such a text would be taken
-// apart in each of them, to read at a place, and say the fact no shorter. By index: by an iterator over the rest, which asks for its end at each digit, the
-// largest plan misses the bar of 1.45 x the twin (bench/twin.c). The compiler unrolls the loop and finds that only a tenth digit can lack room.
+// The number of the digits at a place, ten at most, and the place after them, in a text that ends with a line feed. The
+// line feed is the sentinel: the last byte is no digit, so no place is compared with the end. Each of the three
+// functions that rely on it requires it: a struct for such a text would be taken apart in each of them. By index: with
+// an iterator over the rest, which looks for its end at each digit, the largest plan misses the bar of 1.45 x the twin
+// (bench/twin.c). The compiler unrolls the loop and finds that only a tenth digit can exceed 32 bits.
 fn sentinel_digits_from(text: &[u8], from: usize) -> Option<FieldNumber>
     requires from_in_bounds { from < length text.now }
     requires text_value { get_or text.now (length text.now - 1) 0 ≡ 10 }
@@ -178,7 +180,8 @@ fn sentinel_digits_from(text: &[u8], from: usize) -> Option<FieldNumber>
     })
 }
 
-// The number after the tab at a place, and what ends it: a tab, behind which the next number may be read without another test, or a line feed.
+// The number after the tab at a place, and what ends it: a tab, after which the next number is read without another
+// test, or a line feed.
 fn sentinel_tabbed_at(text: &[u8], at: usize) -> Ended
     requires at_value { get_or text.now at 0 ≡ 9 }
     requires text_value { get_or text.now (length text.now - 1) 0 ≡ 10 }

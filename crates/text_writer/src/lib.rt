@@ -1,5 +1,5 @@
-// Writes tab-separated records, beside the reader `text_reader`: without leading zeros, into room for just the text; the bytes
-// behind it are kept.
+// Writes tab-separated records, which `text_reader` reads back: without leading zeros, into room for just the text; the
+// bytes after it are kept.
 #![tactic(auto)]
 
 ghost use Rattle.std.specs.Prelude.{◌≡◌, ℕ, ◌+◌, ◌*◌, ◌≤◌, [], ◌∷◌, length};
@@ -12,14 +12,14 @@ fn digit_count(value: u64) -> usize
     ensures count { result ≡ length (numeral 19 value) }
     ensures few { result ≤ 20 }
 {
-    // Most numbers that are written are a digit long, so that a logarithm is taken of few.
+    // Most numbers that are written have one digit; only longer ones need a logarithm.
     if value < 10 {
         return 1;
     }
     1 + value.ilog10() as usize
 }
 
-// Numbers of 32 bits as those of 64 bits that a record is written of.
+// Copies numbers of 32 bits as numbers of 64 bits, from which a record is written.
 pub fn widen(numbers: &[u32], wide: &mut [u64])
     requires { length numbers.now ≡ length wide.old }
     ensures { wide.new ≡ numbers.now }
@@ -29,7 +29,8 @@ pub fn widen(numbers: &[u32], wide: &mut [u64])
     }
 }
 
-// A lent buffer, and the place where the next byte is written. Not an `Output` of network_writer, which puts lines where there is no room, too: here there is always room.
+// A lent buffer, and the place where the next byte is written. Not an `Output` of network_writer, which also takes
+// lines for which there is no room: here there is always room.
 #[derive(Drop)]
 struct Cursor<'a> {
     out: &'a mut [u8],
@@ -37,7 +38,6 @@ struct Cursor<'a> {
 }
 
 impl Cursor<'_> {
-    // Writes one byte.
     fn write_byte(&mut self, byte: u8)
         requires { HasRoom (byte ∷ []) self.old }
         ensures { Writes (byte ∷ []) self.old self.new }
@@ -53,7 +53,7 @@ impl Cursor<'_> {
     {
         let end = self.at + digit_count(value);
         let mut rest = value;
-        // By place: a proof knows no element that is written through `iter_mut().rev()`.
+        // By index: a proof knows nothing of an element that is written through `iter_mut().rev()`.
         for place in (self.at..end).rev() {
             self.out[place] = b'0' + (rest % 10) as u8;
             rest /= 10;
@@ -61,7 +61,7 @@ impl Cursor<'_> {
         self.at = end;
     }
 
-    // Writes a number behind a tab.
+    // Writes a tab and a number.
     #[tactic(auto, unfolding(crate::specs::Records::field_text))]
     fn write_field(&mut self, value: u64)
         requires { HasRoom (field_text value) self.old }
@@ -72,8 +72,9 @@ impl Cursor<'_> {
     }
 }
 
-// Writes a record: a letter, the numbers, each behind a tab, and a line feed. Buffer and place are parameters, though a `Cursor` is a struct of both: the
-// contract is of the bytes alone, on which the `Output` of network_writer rests, and plancheck_report, whose totals it doesn't take.
+// Writes a record: a letter, the numbers, each after a tab, and a line feed. Buffer and place are two parameters,
+// though a `Cursor` has both: the contract speaks of the bytes alone, and network_writer and plancheck_report rely on
+// that.
 #[tactic(auto, using(crate::proofs::Laws::record_is))]
 pub fn write_record(out: &mut [u8], at: usize, letter: u8, numbers: &[u64]) -> usize
     requires { at + length (record_text letter numbers.now) ≤ length out.old }

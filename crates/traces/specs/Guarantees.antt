@@ -17,7 +17,7 @@ pub record Keeps (places advances lines : List Float) (spacing : Float) (after :
   pub not-across : (i j : ℕ) → i < length places → j < length lines → le (get_or places i nan) (get_or lines j nan) ≡ true → le (get_or after i nan) (get_or lines j nan) ≡ true
   -- one that moves behind a leader ends no further than the leader's last place minus the spacing, rounded once
   pub behind-leader : (i : ℕ) → suc i < length places → lt (get_or places (suc i) nan) (get_or after (suc i) nan) ≡ true → le (get_or after (suc i) nan) (sub binary64 (get_or places i nan) spacing) ≡ true
-  -- one that moves goes no further than its place plus its advance, rounded once
+  -- a vehicle that moves goes no further than its place plus its advance, rounded once
   pub within-advance : (i : ℕ) → i < length places → lt (get_or places i nan) (get_or after i nan) ≡ true → le (get_or after i nan) (add binary64 (get_or places i nan) (get_or advances i nan)) ≡ true
   -- every place is finite
   pub stays-finite : (i : ℕ) → i < length places → finite (get_or after i nan) ≡ true

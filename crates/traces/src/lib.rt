@@ -87,7 +87,7 @@ fn move_all(places: &mut [f64], advances: &[f64], red_lines: &[f64], spacing: f6
     ensures { places.new ≡ list (length places.old) (place_after places.old advances.now red_lines.now spacing) }
 {
     let mut ahead = Obstacle::OpenRoad;
-    // Not a `zip` with the advances: a proof knows no element that is written through one.
+    // Not a `zip` with the advances: a proof knows nothing of an element that is written through it.
     for (i, place) in places.iter_mut().enumerate() {
         let vehicle = Vehicle {
             place: *place,
@@ -105,7 +105,7 @@ fn valid_place(x: f64) -> bool
     (-MILLION..=MILLION).contains(&x)
 }
 
-// Whether an advance or a spacing is that, and not negative. Not the range from 0.0, which is no plainer: this reads as the definition.
+// Whether an advance or a spacing is valid as a place is, and not negative.
 #[tactic(auto, unfolding(crate::specs::Call::valid_distance))]
 fn valid_distance(x: f64) -> bool
     ensures { result ≡ valid_distance x }
