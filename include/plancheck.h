@@ -145,9 +145,10 @@ extern "C" {
 #define PLANCHECK_BOX
 #endif
 
-/* The version of the calls, of their answers and of the texts (CHANGELOG.md); plancheck_version returns the library's. */
-#define PLANCHECK_VERSION_MAJOR 0
-#define PLANCHECK_VERSION_MINOR 3
+/* The version of the calls, of their answers and of the texts; plancheck_version returns the library's. Libraries of one
+   major number give every input the same answer; a greater minor number has more calls (CHANGELOG.md). */
+#define PLANCHECK_VERSION_MAJOR 1
+#define PLANCHECK_VERSION_MINOR 0
 #define PLANCHECK_VERSION_PATCH 0
 
 /* Limits of a network. Links and steps are at least 1; there may be no signals, movements, tram lines and past steps. Past

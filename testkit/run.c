@@ -687,18 +687,17 @@ static int tell_wrong_text(void)
     return 2;
 }
 
+/* Libraries of one major number give the same answers (CHANGELOG.md); one that lacks a call is not linked. */
 static int is_other_version(void)
 {
-    plancheck_version_result version = plancheck_version();
-    return version.major != PLANCHECK_VERSION_MAJOR || version.minor != PLANCHECK_VERSION_MINOR ||
-           version.patch != PLANCHECK_VERSION_PATCH;
+    return plancheck_version().major != PLANCHECK_VERSION_MAJOR;
 }
 
 int testkit_run(void)
 {
     char word[NAME_ROOM];
     if (is_other_version()) {
-        testkit_print("the library is of another version than the header\n");
+        testkit_print("the library is of another major version than the header\n");
         return 2;
     }
     text_line = 1;

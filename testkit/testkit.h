@@ -21,7 +21,7 @@ void testkit_print(const char *words);
  * Runs all cases, names the first that differ, and prints `N cases, 0 differ` last.
  *
  * Returns 0 where none differs, 1 where some do, 2 where the text of cases is not as it should be, none of it could be
- * run, or the library is of another version than the header.
+ * run, or the library is of another major version than the header.
  */
 int testkit_run(void);
 

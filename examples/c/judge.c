@@ -113,9 +113,8 @@ int main(int count, char **arguments)
         fprintf(stderr, "usage: judge FOLDER\n");
         return 2;
     }
-    plancheck_version_result version = plancheck_version();
-    if (version.major != PLANCHECK_VERSION_MAJOR || version.minor != PLANCHECK_VERSION_MINOR) {
-        fprintf(stderr, "the library is of another version than the header\n");
+    if (plancheck_version().major != PLANCHECK_VERSION_MAJOR) {
+        fprintf(stderr, "the library is of another major version than the header\n");
         return 2;
     }
     size_t network_len, plan_len;

@@ -60,11 +60,11 @@ pub fn network_counts(network: &[u8]) -> Result<Counts, Refusal> {
 /// A version of the library: of its calls, of their answers and of the texts.
 #[derive(Clone, Copy, Debug, PartialEq, Eq, PartialOrd, Ord, Hash)]
 pub struct Version {
-    /// Changes with what breaks a caller, from 1 on.
+    /// Changes with any answer, struct or text. Libraries of one major number give every input the same answer.
     pub major: u32,
-    /// Changes with what is new; before 1.0.0 also with what breaks a caller.
+    /// Changes with new calls.
     pub minor: u32,
-    /// Changes with fixes.
+    /// Changes with speed, stack, code size, or the words of a page.
     pub patch: u32,
 }
 
@@ -72,7 +72,7 @@ pub struct Version {
 ///
 /// ```
 /// let version = plancheck::library_version();
-/// assert_eq!((version.major, version.minor, version.patch), (0, 3, 0));
+/// assert_eq!((version.major, version.minor, version.patch), (1, 0, 0));
 /// ```
 #[must_use]
 pub fn library_version() -> Version {

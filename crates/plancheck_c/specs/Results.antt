@@ -46,7 +46,7 @@ counts_result (Err r) =
 
 -- the version of the calls, of their answers and of the texts (CHANGELOG.md)
 abbrev pub version : VersionResult
-version = record { major = 0; minor = 3; patch = 0 }
+version = record { major = 1; minor = 0; patch = 0 }
 
 abbrev pub plan_result : Result Totals Refusal → PlanResult
 plan_result (Ok t) =

@@ -343,8 +343,8 @@ pub extern "C" fn plancheck_version() -> VersionResult
     ensures { result ≡ version }
 {
     VersionResult {
-        major: 0,
-        minor: 3,
+        major: 1,
+        minor: 0,
         patch: 0,
     }
 }

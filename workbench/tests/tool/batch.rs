@@ -8,10 +8,10 @@ use std::thread;
 use std::time::Duration;
 
 const EARLY: &str = "P\t1\t5000\t0\t0\t0\t3000";
-const ACCEPTED: &str = "\"answer\":\"accepted\",\"totals\":{\"admitted\":5000,\"let_out\":5000,\"inside\":0,\"doubled_time\":240000},\"version\":\"0.3.0\"}";
+const ACCEPTED: &str = "\"answer\":\"accepted\",\"totals\":{\"admitted\":5000,\"let_out\":5000,\"inside\":0,\"doubled_time\":240000},\"version\":\"1.0.0\"}";
 const REFUSED: &str = "\"answer\":\"refused\",\"refusal\":{\"number\":17,\"line\":1,\"item\":1,\"text\":\"plan\",\"item_kind\":\"link\",\
     \"words\":\"refused with 17 in step 1 (line 1 of the plan text, seconds 0 to 10), link 1 (line 3 of the network text): \
-    more has left than has arrived\"},\"version\":\"0.3.0\"}";
+    more has left than has arrived\"},\"version\":\"1.0.0\"}";
 
 /// A text as JSON has it.
 fn quoted(path: &str) -> String {
@@ -67,7 +67,7 @@ fn lines_of_each_kind_in_their_order() {
         "{\"line\":5,\"answer\":\"refused\",\"refusal\":{\"number\":13,".to_string(),
         "{\"line\":6,\"network\":\"nowhere\",\"plan\":\"plan\",\"answer\":\"unread\",\"why\":\"nowhere was not read: "
             .to_string(),
-        "{\"line\":7,\"answer\":\"unread\",\"why\":\"the line is empty\",\"version\":\"0.3.0\"}".to_string(),
+        "{\"line\":7,\"answer\":\"unread\",\"why\":\"the line is empty\",\"version\":\"1.0.0\"}".to_string(),
         "{\"line\":8,\"answer\":\"unread\",\"why\":\"there is no plan: ".to_string(),
         "{\"line\":9,\"id\":null,\"answer\":\"unread\",\"why\":\"plan is no string\"".to_string(),
         "{\"line\":10,\"answer\":\"unread\",\"why\":\"there is no network\"".to_string(),
