@@ -66,8 +66,8 @@ pub record LimitsKept (step : Step) : Type 0 where
   pub of-links : LinkLimitsKept step step.counts.links
   pub of-movements : MovementLimitsKept step step.counts.movements
 
--- the first n links keep their limits, and a row has begun with them; the first m movements keep theirs, and have been added to it. Its sums wrap, so that the row is
--- told only where they fit
+-- the first n links keep their limits, and a row has begun with them; the first m movements keep theirs, and have been added to it. Its sums wrap, so that it
+-- is fixed only where they fit
 pub record LinksPassed (step : Step) (previous before : List ℕ) (n : ℕ) (row : List ℕ) : Type 0 where
   pub kept : LinkLimitsKept step n
   pub begun : Base step.counts step.plan_line.now previous before

@@ -120,7 +120,7 @@ impl LimitRule {
     }
 }
 
-// Whether a movement keeps 26 and 27, as one that is 0 does. By the tests of both a plan takes 1 to 2 % more instructions.
+// Whether a movement keeps 26 and 27, as one that is 0 does. By the tests of both a plan took 1 to 2 % more instructions.
 fn moves_within(step: &Step, j: usize) -> bool
     requires { j < step.now.counts.movements }
     ensures { result ≡ (moves_rate step.now j and moves_open step.now j) }
@@ -162,7 +162,7 @@ fn movements_within_limits(step: &Step, row: &mut [u32]) -> bool
 }
 
 // Whether all limits are kept, by one pass over the links and one over the movements, which form the row after the step meanwhile: with the row formed apart, by
-// `step_rows::next_row`, the largest plan takes 6 % more instructions.
+// `step_rows::next_row`, the largest plan took 6 % more instructions.
 pub fn row_within_limits(step: &Step, previous: &[u32], row: &mut [u32]) -> bool
     requires { (2 * step.now.counts.links ≤ length previous.now) × (length row.old ≡ row_size) }
     ensures { RowGot step.now previous.now row.old result row.new }

@@ -9,9 +9,9 @@ ghost use Rattle.step_past.specs.Curves.{CurveAsked, CurveGot, ReadAsked, ReadGo
 
 use network_tables::{Link, NetworkTables, PAST_SIZE};
 
-// What a link is waiting for: the step in which its travel time ends. If that is a past one, also what had entered the link by that step's start and by its end,
-// and the place of the `H` line after it. These three are no Option: check_plan would take 126 instructions more on the corridor, past the bar of 6,800,
-// and 1.2 % more on the largest, past the bar of 1.45 times the twin's (docs/MEASUREMENTS.md).
+// What a link is waiting for: the step in which its travel time ends. If that is a past one, also what had entered the
+// link by that step's start and by its end, and the place of the `H` line after it. These three are not an `Option`:
+// with one, check_plan took 126 instructions more on the corridor and 1.2 % more on the largest plan.
 #[derive(Clone, Copy, Default)]
 pub struct Arrival {
     pub step: usize,

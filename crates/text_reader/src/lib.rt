@@ -41,7 +41,7 @@ pub struct LineNumber {
 }
 
 // The number of the field after a tab, and which byte ends that field. Not an `Option`: if the byte after a number is
-// tested again for the next one, the largest plan misses the bar of 1.45 x the twin (bench/twin.c).
+// tested again for the next one, the largest plan took 4.9 % more instructions.
 #[derive(Clone, Copy)]
 enum Ended {
     ByTab(FieldNumber),
@@ -58,7 +58,7 @@ enum Numbers {
     Missing,
 }
 
-// On 32 bits: with `is_ascii_digit` of the byte the largest plan misses the bar of 1.45 x the twin (bench/twin.c).
+// On 32 bits: with `is_ascii_digit` of the byte the largest plan took 5 to 8 % more instructions.
 fn is_digit(b: u32) -> bool
     ensures { result ≡ digit b }
 {
@@ -158,8 +158,8 @@ fn guarded_numbers_at(text: &[u8], at: usize, out: &mut [u32]) -> Numbers
 // The number of the digits at a place, ten at most, and the place after them, in a text that ends with a line feed. The
 // line feed is the sentinel: the last byte is no digit, so no place is compared with the end. Each of the three
 // functions that rely on it requires it: a struct for such a text would be taken apart in each of them. By index: with
-// an iterator over the rest, which looks for its end at each digit, the largest plan misses the bar of 1.45 x the twin
-// (bench/twin.c). The compiler unrolls the loop and finds that only a tenth digit can exceed 32 bits.
+// an iterator over the rest, which looks for its end at each digit, the largest plan took 24 % more instructions. The
+// compiler unrolls the loop and finds that only a tenth digit can exceed 32 bits.
 fn sentinel_digits_from(text: &[u8], from: usize) -> Option<FieldNumber>
     requires from_in_bounds { from < length text.now }
     requires text_value { get_or text.now (length text.now - 1) 0 ≡ 10 }
