@@ -14,7 +14,7 @@ ghost use Rattle.listing_call.specs.Tables.{has_in, index_in, place_in, variable
 ghost use Rattle.listing_call.specs.Writing.{WriteGot};
 
 use base_search::{Reason, Refusal};
-use listing_lines::{Setting, Variable};
+use listing_lines::{ONE, Setting, Variable};
 use model::{MAX_PHASES, Signal};
 use network::Room;
 use network_tables::{Counts, LINE_SIZE, MAX_LINKS, MAX_MOVEMENTS, MAX_SIGNALS, MAX_STEPS};
@@ -29,6 +29,9 @@ const MOVED_BITS: usize = LET_OUT_BITS + MAX_LINKS;
 
 // How many bytes the bits of a step have. They are packed by hand, since memory is fixed: a `bool` for each would take 21,120 bytes of stack in place of 2,640.
 const STEP_BYTES: usize = (MOVED_BITS + MAX_MOVEMENTS) / 8;
+
+// How many millionths are a thousandth, the unit of a volume.
+const THOUSANDTH: u64 = 1000;
 
 // Where a variable stands: its step, counted from 0, and its bit and its number in the step's rows.
 #[derive(Clone, Copy)]
@@ -170,7 +173,7 @@ fn is_valid_value(setting: Setting) -> bool
     ensures { result ≡ valid_value setting.variable setting.millionths }
 {
     match setting.variable {
-        Variable::Shown { .. } => matches!(setting.millionths, 0 | 1_000_000),
+        Variable::Shown { .. } => matches!(setting.millionths, 0 | ONE),
         _ => true,
     }
 }
@@ -211,10 +214,10 @@ fn volume_of(millionths: u64, seconds: u32) -> Option<u32>
     ensures { result ≡ volume_in millionths seconds }
 {
     let product = millionths * u64::from(seconds);
-    if product % 1000 != 0 {
+    if product % THOUSANDTH != 0 {
         return None;
     }
-    u32::try_from(product / 1000).ok()
+    u32::try_from(product / THOUSANDTH).ok()
 }
 
 // What a line adds to the number of its variable.
@@ -224,7 +227,7 @@ fn number_of(setting: Setting, seconds: u32) -> Option<u32>
     ensures { result ≡ number_in setting.variable setting.millionths seconds }
 {
     match setting.variable {
-        Variable::Shown { phase, .. } if setting.millionths == 1_000_000 => Some(phase_bit(phase)),
+        Variable::Shown { phase, .. } if setting.millionths == ONE => Some(phase_bit(phase)),
         Variable::Shown { .. } => Some(0),
         _ => volume_of(setting.millionths, seconds),
     }

@@ -20,6 +20,14 @@ pub struct Setting {
     pub millionths: u64,
 }
 
+// The most digits of a number, and of a fraction.
+const MAX_DIGITS: usize = 10;
+
+const MAX_DECIMALS: usize = 6;
+
+// The value 1, in millionths.
+pub const ONE: u64 = 1_000_000;
+
 // The bytes before and after the first such byte.
 fn split_once(bytes: &[u8], byte: u8) -> Option<(&[u8], &[u8])>
     ensures { MatchOption result (split_once byte bytes.now ≡ None) (λ parts. split_once byte bytes.now ≡ Some (parts.0.now, parts.1.now)) }
@@ -54,8 +62,8 @@ fn fraction_of(bytes: &[u8]) -> Option<u64>
     ensures value { result ≡ fraction_of bytes.now }
     ensures small { IfSome result (λ v. v < 10 ^ 6) }
 {
-    let value = digits_of(bytes, 6)?;
-    Some(value * 10u64.pow((6 - bytes.len()) as u32))
+    let value = digits_of(bytes, MAX_DECIMALS)?;
+    Some(value * 10u64.pow((MAX_DECIMALS - bytes.len()) as u32))
 }
 
 // A decimal in millionths: one to ten digits, then optionally a point and one to six more.
@@ -67,7 +75,7 @@ fn rate_of(bytes: &[u8]) -> Option<u64>
         Some((whole, part)) => (whole, fraction_of(part)?),
         None => (bytes, 0),
     };
-    Some(digits_of(whole, 10)? * 1_000_000 + part)
+    Some(digits_of(whole, MAX_DIGITS)? * ONE + part)
 }
 
 // A number of a name.
@@ -76,7 +84,7 @@ fn index_of(bytes: &[u8]) -> Option<u64>
 {
     match bytes {
         [b'0', _, ..] => None,
-        _ => digits_of(bytes, 10),
+        _ => digits_of(bytes, MAX_DIGITS),
     }
 }
 
