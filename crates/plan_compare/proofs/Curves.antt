@@ -20,7 +20,7 @@ use Rattle.network_tables.specs.Tables.{CountsHold}
 use Rattle.network_tables.proofs.Rows.{again_joined}
 use Rattle.plan_compare.specs.declared.LetOut.{LetOut}
 use Rattle.plan_compare.specs.Comparison.{order_by, let_out_by, is_never_fewer, order}
-use Rattle.plan_compare.specs.Curves.{line_lets_out, lines_no_fewer, lines_order, Formed, NextAsked, NextGot, ReadTo}
+use Rattle.plan_compare.specs.Curves.{line_lets_out, lines_no_fewer, lines_order, Formed, NextAsked, NextGot, ComparedTo}
 
 -- ---- a step later
 -- a row without numbers
@@ -69,7 +69,7 @@ module _ {counts : Counts} {text : List ℕ} {so_far : LetOut} (asked : NextAske
         }
 
 -- ---- both texts, step by step
-pub read_none : (counts : Counts) (first second : List ℕ) → ReadTo counts first second 0 (record { at = 0; volume = 0; never_fewer = true }) (record { at = 0; volume = 0; never_fewer = true })
+pub read_none : (counts : Counts) (first second : List ℕ) → ComparedTo counts first second 0 (record { at = 0; volume = 0; never_fewer = true }) (record { at = 0; volume = 0; never_fewer = true })
 unfolding sum every ◌and◌ lines_no_fewer
 read_none counts first second =
     record {
@@ -79,9 +79,9 @@ read_none counts first second =
       second-never-fewer = refl;
     }
 
-module _ {counts : Counts} {first second : List ℕ} {n : ℕ} {one other : LetOut} (r : ReadTo counts first second n one other) where
+module _ {counts : Counts} {first second : List ℕ} {n : ℕ} {one other : LetOut} (r : ComparedTo counts first second n one other) where
   pub read_next : n < counts.steps → {one' other' : LetOut} → NextGot counts first one one' → NextGot counts second other other'
-      → ReadTo counts first second (n + 1) (record { at = one'.at; volume = one'.volume; never_fewer = one'.never_fewer && leb other'.volume one'.volume })
+      → ComparedTo counts first second (n + 1) (record { at = one'.at; volume = one'.volume; never_fewer = one'.never_fewer && leb other'.volume one'.volume })
       (record { at = other'.at; volume = other'.volume; never_fewer = other'.never_fewer && leb one'.volume other'.volume })
   unfolding every ◌and◌ lines_no_fewer
   read_next h g k =

@@ -48,7 +48,7 @@ pub record NextGot (counts : Counts) (text : List ℕ) (so_far next : LetOut) : 
   pub same : next.never_fewer ≡ so_far.never_fewer
 
 -- Both texts are read up to boundary n, and whether each was never fewer so far.
-pub record ReadTo (counts : Counts) (first second : List ℕ) (n : ℕ) (first_so_far second_so_far : LetOut) : Type 0 where
+pub record ComparedTo (counts : Counts) (first second : List ℕ) (n : ℕ) (first_so_far second_so_far : LetOut) : Type 0 where
   pub first-at : LetOutAt counts first n first_so_far
   pub second_at : LetOutAt counts second n second_so_far
   pub first-never-fewer : first_so_far.never_fewer ≡ every (suc n) (lines_no_fewer counts first second)
