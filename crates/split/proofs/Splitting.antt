@@ -28,7 +28,7 @@ use Rattle.model_split.proofs.Promises.{split-in-two}
 use Rattle.split_checks.specs.Tables.{PartsAsked}
 use Rattle.split_checks.specs.Network.{SplitTold, PartsTold}
 use Rattle.split_checks.specs.Plan.{FormAsked, FormTold}
-use Rattle.split.specs.Splitting.{texts, Passed, HalvesJudged, BothHalves, WriteAsked, fits, buffers, held_in, WrittenWhere, HalvesWritten, SplitGot}
+use Rattle.split.specs.Splitting.{texts, Passed, HalvesJudged, BothHalves, WriteAsked, fits, buffers, buffer_contents, WrittenWhere, HalvesWritten, SplitGot}
 use Rattle.std.specs.Prelude.{Result, Ok, Err}
 use Rattle.model_split.specs.declared.Lengths.{Lengths}
 
@@ -175,7 +175,7 @@ promised {network_text} {plan_text} {set} {before} got = (
 )
 
 -- the text is that of the tables, and the buffers are given back
-pub given-back : {text read plan : List ℕ} {set : ℕ} {before : Buffers} (lent : FourBuffers) {answer : (Result Lengths Refusal)} → SplitGot read plan set before (held_in lent) answer → read ≡ text
+pub given-back : {text read plan : List ℕ} {set : ℕ} {before : Buffers} (lent : FourBuffers) {answer : (Result Lengths Refusal)} → SplitGot read plan set before (buffer_contents lent) answer → read ≡ text
     → {network₁ plan₁ network₂ plan₂ : List ℕ} → network₁ ≡ lent.network_1.now → plan₁ ≡ lent.plan_1.now → network₂ ≡ lent.network_2.now → plan₂ ≡ lent.plan_2.now
     → SplitGot text plan set before (buffers network₁ plan₁ network₂ plan₂) answer
 given-back lent got e a b c d = rw (a, b, c, d, ← e) got

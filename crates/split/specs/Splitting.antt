@@ -26,8 +26,8 @@ abbrev pub buffers : List ℕ → List ℕ → List ℕ → List ℕ → Buffers
 buffers network₁ plan₁ network₂ plan₂ = record { network₁ = network₁; plan₁ = plan₁; network₂ = network₂; plan₂ = plan₂ }
 
 -- what the four buffers hold
-abbrev pub held_in : FourBuffers → Buffers
-held_in lent = buffers lent.network_1.now lent.plan_1.now lent.network_2.now lent.plan_2.now
+abbrev pub buffer_contents : FourBuffers → Buffers
+buffer_contents lent = buffers lent.network_1.now lent.plan_1.now lent.network_2.now lent.plan_2.now
 
 -- the same four buffers, whatever they hold
 pub record SameLent (old new : FourBuffers) : Type 0 where

@@ -4,7 +4,7 @@
 ghost use Rattle.std.specs.Prelude.{◌≡◌};
 ghost use Rattle.text_reader.specs.Padding.{PaddingIgnored};
 ghost use Rattle.model_split.specs.Splits.{SplitInTwo};
-ghost use Rattle.split.specs.Splitting.{texts, buffers, Passed, HalvesJudged, WriteAsked, Measured, fits, held_in, SameLent, HalvesWritten, SplitGot};
+ghost use Rattle.split.specs.Splitting.{texts, buffers, Passed, HalvesJudged, WriteAsked, Measured, fits, buffer_contents, SameLent, HalvesWritten, SplitGot};
 
 use base_search::{Reason, Refusal, checked};
 use model::Signal;
@@ -60,7 +60,7 @@ fn write_halves(
 ) -> Result<Lengths, Refusal>
     requires { WriteAsked whole.now halves.now }
     ensures lent { SameLent buffers.old buffers.new }
-    ensures written { HalvesWritten whole.now halves.now (held_in buffers.old) (held_in buffers.new) result }
+    ensures written { HalvesWritten whole.now halves.now (buffer_contents buffers.old) (buffer_contents buffers.new) result }
 {
     let lengths = measure(whole, halves);
     let room = Lengths {
@@ -105,7 +105,7 @@ fn split_loaded(
 ) -> Result<Lengths, Refusal>
     requires { Passed whole.now }
     ensures lent { SameLent buffers.old buffers.new }
-    ensures got { SplitGot whole.now.tables.text.now whole.now.plan.now first_half (held_in buffers.old) (held_in buffers.new) result }
+    ensures got { SplitGot whole.now.tables.text.now whole.now.plan.now first_half (buffer_contents buffers.old) (buffer_contents buffers.new) result }
 {
     let mut halves = Halves::default();
     split_tables::number_halves(first_half, &whole.tables, &mut halves);

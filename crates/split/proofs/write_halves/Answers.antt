@@ -2,7 +2,7 @@
 use Rattle.base_search.proofs.Laws.{passed_on}
 use Rattle.base_laws.proofs.Kit.{◌∙◌, sym}
 use Rattle.model_split.specs.Splits.{room_of}
-use Rattle.split.specs.Splitting.{held_in}
+use Rattle.split.specs.Splitting.{buffer_contents}
 use Rattle.split.proofs.Writing.{too_short, all-written}
 use Rattle.split.proofs.write_halves.Goals as goal
 
@@ -11,7 +11,7 @@ unfolding room_of
 returns-in_err-checked-clause-written c =
     let a = c.args in
     rw (passed_on _ _ c.from_residual.ensures.1)
-    (too_short a.whole.now c.measure-lengths.ensures (held_in a.buffers.now) c.has_room.ensures (sym c.checked.ensures ∙ c.in_err-checked.was))
+    (too_short a.whole.now c.measure-lengths.ensures (buffer_contents a.buffers.now) c.has_room.ensures (sym c.checked.ensures ∙ c.in_err-checked.was))
 
 pub returns-clause-written : goal.returns-clause-written
 unfolding room_of
