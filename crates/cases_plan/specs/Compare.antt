@@ -15,7 +15,7 @@ use Rattle.cases_plan.specs.declared.answers.Texts.{Texts}
 use Rattle.cases_plan.specs.declared.call.Call.{Call}
 use Rattle.cases_plan.specs.declared.call.Call.TheVariants.{CheckNetwork, CheckPlan, LinkState, PlanFromListing, CarryOn, CheckSheet, PlanFromSheet, ComparePlans}
 use Rattle.cases_plan.specs.declared.outcome.Outcome.{Outcome}
-use Rattle.cases_plan.specs.declared.stored.Told.{Told}
+use Rattle.cases_plan.specs.declared.stored.Reported.{Reported}
 
 module _ (texts : Texts) (question : Question) where
   abbrev pub network : List Line
@@ -76,12 +76,12 @@ abbrev pub buffer_to : Texts → List ℕ → List ℕ → Question → List ℕ
 buffer_to texts ledger buffer question = buffer_by texts question question.call ledger buffer
 
 -- the answer, and the checksum of what is left
-unfoldable pub told_to : Texts → List ℕ → List ℕ → List ℕ → Question → Told
-told_to texts ledger second_ledger buffer question = record {
+unfoldable pub reported_to : Texts → List ℕ → List ℕ → List ℕ → Question → Reported
+reported_to texts ledger second_ledger buffer question = record {
   outcome = answer_to texts ledger second_ledger buffer question;
   checksum = checksum_of (ledger_to texts ledger question) (second_ledger_to texts ledger second_ledger question) (buffer_to texts ledger buffer question);
 }
 
 -- an answer, ledgers and a buffer are those that were stored: the answer in every part, the others by their checksum
-abbrev pub as_stored : Told → Told → Bool
+abbrev pub as_stored : Reported → Reported → Bool
 as_stored given stored = same_outcome given.outcome stored.outcome && given.checksum == stored.checksum

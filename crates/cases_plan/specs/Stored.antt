@@ -8,7 +8,7 @@ use Rattle.cases_plan.specs.declared.call.Call.TheVariants.{CheckSheet, CompareP
 use Rattle.cases_plan.specs.declared.outcome.Outcome.{Outcome}
 use Rattle.cases_plan.specs.declared.stored.Filled.{Filled}
 use Rattle.cases_plan.specs.declared.stored.Asked.{Asked}
-use Rattle.cases_plan.specs.declared.stored.Told.{Told}
+use Rattle.cases_plan.specs.declared.stored.Reported.{Reported}
 
 abbrev pub filled_bytes : Filled → List ℕ
 filled_bytes filled = to_le_bytes w32 filled.length ++ to_le_bytes w32 filled.fill
@@ -30,8 +30,8 @@ abbrev pub outcome_bytes : Outcome → List ℕ
 outcome_bytes outcome =
     to_le_bytes w32 outcome.kind ++ to_le_bytes w64 outcome.first ++ to_le_bytes w64 outcome.second ++ to_le_bytes w64 outcome.third ++ to_le_bytes w64 outcome.fourth
 
-abbrev pub told_bytes : Told → List ℕ
-told_bytes told = outcome_bytes told.outcome ++ to_le_bytes w64 told.checksum
+abbrev pub reported_bytes : Reported → List ℕ
+reported_bytes reported = outcome_bytes reported.outcome ++ to_le_bytes w64 reported.checksum
 
 -- the question has the numbers that are asked; none where one of them has more than 32 bits
 abbrev pub IsQuestionOf : Asked → Option Question → Type 0

@@ -1,11 +1,11 @@
 // What the library answers to a question, and whether that is what was stored.
 ghost use Rattle.std.specs.Prelude.{◌≡◌};
-ghost use Rattle.cases_plan.specs.Compare.{answer_to, ledger_to, second_ledger_to, buffer_to, told_to, as_stored};
+ghost use Rattle.cases_plan.specs.Compare.{answer_to, ledger_to, second_ledger_to, buffer_to, reported_to, as_stored};
 
 use crate::call::Call;
 use crate::checksum::checksum;
 use crate::outcome::Outcome;
-use crate::stored::Told;
+use crate::stored::Reported;
 use cases_files::agreement::agrees;
 
 // The texts of a case; the second is a sheet or a second plan.
@@ -29,7 +29,7 @@ pub struct Question {
 pub struct Case {
     pub number: u32,
     pub question: Question,
-    pub stored: Told,
+    pub stored: Reported,
 }
 
 // What the library answers to a question, and the ledgers and the buffer that it leaves.
@@ -75,10 +75,10 @@ pub fn judge(
     second_ledger: &mut [u32],
     buffer: &mut [u8],
 ) -> bool
-    ensures { result ≡ as_stored (told_to texts.entry ledger.old second_ledger.old buffer.old case.question) case.stored }
+    ensures { result ≡ as_stored (reported_to texts.entry ledger.old second_ledger.old buffer.old case.question) case.stored }
 {
     let outcome = answer_to(texts, ledger, second_ledger, buffer, case.question);
-    let given = Told {
+    let given = Reported {
         outcome,
         checksum: checksum(ledger, second_ledger, buffer),
     };

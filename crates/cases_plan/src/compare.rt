@@ -82,7 +82,7 @@ fn run_case<R: Read>(
     let asked = stored::read_asked(file)?;
     let second = stored::read_second(file, &mut room, asked.call)?;
     let second_ledger = stored::read_second_filled(file, asked.call)?;
-    let stored = stored::read_told(file)?;
+    let stored = stored::read_reported(file)?;
     let Some(question) = asked.question() else {
         return Ok(tally::PASSED_OVER);
     };

@@ -1,7 +1,7 @@
 // Reads the stored form of the cases, one part at a time. The form is described in reference/src/cases/stored.rs.
 ghost use Rattle.std.specs.Prelude.{IfOk};
 ghost use Rattle.std.specs.Io.KnownBytes.{Consumes};
-ghost use Rattle.cases_plan.specs.Stored.{filled_bytes, asked_bytes, second_bytes, second_filled_bytes, told_bytes, IsQuestionOf};
+ghost use Rattle.cases_plan.specs.Stored.{filled_bytes, asked_bytes, second_bytes, second_filled_bytes, reported_bytes, IsQuestionOf};
 
 use crate::answers::Question;
 use crate::call::Call;
@@ -29,12 +29,12 @@ pub struct Asked {
 
 // An outcome, and the checksum of the ledgers and the buffer that are left.
 #[derive(Clone, Copy, PartialEq)]
-pub struct Told {
+pub struct Reported {
     pub outcome: Outcome,
     pub checksum: u64,
 }
 
-impl Display for Told {
+impl Display for Reported {
     fn fmt<W: fmt::Write>(&self, f: &mut fmt::Formatter<W>) -> fmt::Result {
         write!(f, "{}\t{}", self.outcome, self.checksum)
     }
@@ -106,10 +106,10 @@ pub fn read_second_filled<R: Read>(file: &mut R, call: Call) -> Result<Filled, M
 }
 
 // Reads what the other implementation answers.
-pub fn read_told<R: Read>(file: &mut R) -> Result<Told, Malformed>
-    ensures { IfOk result (λ told. Consumes (R.remaining file.old) (R.remaining file.new) (told_bytes told)) }
+pub fn read_reported<R: Read>(file: &mut R) -> Result<Reported, Malformed>
+    ensures { IfOk result (λ reported. Consumes (R.remaining file.old) (R.remaining file.new) (reported_bytes reported)) }
 {
-    Ok(Told {
+    Ok(Reported {
         outcome: Outcome {
             kind: read_u32(file)?,
             first: read_u64(file)?,
