@@ -97,27 +97,27 @@
  * one of its own. A call always returns, after work that grows linearly with the lengths of the texts and with
  * K * (R + L + M), of a listing and a sheet too, of a split also with M * M, of a corridor with cells * demands, and of a
  * step with vehicles * red lines. Of a network with a past an H line within the travel times is read once more for the
- * links that are at it in a step, at worst for each link.
+ * links that are at it in a step, at worst one number of it for each link.
  * The library needs memcpy and memset from the C library, at most.
  *
  * MEMORY
  * In bytes. The stack is that of x86-64, as painted (docs/MEASUREMENTS.md; bench/run measures it).
  *     call                          stack     lent, beside what it reads
- *     plancheck_check_network        5,584    nothing
- *     plancheck_network_counts       5,632    nothing
- *     plancheck_check_plan           6,544    the ledger: 4 * PLANCHECK_LEDGER_LEN(L, K), 23,232 at most
- *     plancheck_link_state           5,632    nothing
- *     plancheck_carry_on             6,688    the ledger: 4 * PLANCHECK_LEDGER_LEN(L, b); the buffer for the text
- *     plancheck_plan_from_listing   65,584    the buffer: PLANCHECK_WRITTEN_PLAN_MAX, 151,920, at most
- *     plancheck_compare_plans        7,888    two ledgers: each 4 * PLANCHECK_LEDGER_LEN(L, K), 23,232 at most
- *     plancheck_check_sheet          7,392    the ledger: 4 * PLANCHECK_LEDGER_LEN(L, K), 23,232 at most
- *     plancheck_plan_from_sheet     10,000    the buffer: 30,960 at most
- *     plancheck_split                7,880    four buffers: each half at most the greatest network and plan text
+ *     plancheck_check_network        5,536    nothing
+ *     plancheck_network_counts       5,584    nothing
+ *     plancheck_check_plan           6,592    the ledger: 4 * PLANCHECK_LEDGER_LEN(L, K), 23,232 at most
+ *     plancheck_link_state           5,568    nothing
+ *     plancheck_carry_on             6,944    the ledger: 4 * PLANCHECK_LEDGER_LEN(L, b); the buffer for the text
+ *     plancheck_plan_from_listing   65,552    the buffer: PLANCHECK_WRITTEN_PLAN_MAX, 151,920, at most
+ *     plancheck_compare_plans        8,144    two ledgers: each 4 * PLANCHECK_LEDGER_LEN(L, K), 23,232 at most
+ *     plancheck_check_sheet          7,408    the ledger: 4 * PLANCHECK_LEDGER_LEN(L, K), 23,232 at most
+ *     plancheck_plan_from_sheet      9,952    the buffer: 30,960 at most
+ *     plancheck_split                7,832    four buffers: each half at most the greatest network and plan text
  *     plancheck_run_cells            2,192    nothing
  *     plancheck_step_vehicles           40    nothing: the places are changed where they stand
  *     plancheck_version                  8    nothing
- * On a Cortex-M0 plancheck_check_network takes 5,736, plancheck_network_counts 5,760, plancheck_check_plan 6,700,
- * plancheck_check_sheet 7,692, plancheck_link_state 5,824 and plancheck_carry_on 6,988 of stack (box/measure).
+ * On a Cortex-M0 plancheck_check_network takes 5,668, plancheck_network_counts 5,692, plancheck_check_plan 6,568,
+ * plancheck_check_sheet 7,568, plancheck_link_state 5,780 and plancheck_carry_on 6,864 of stack (box/measure).
  * plancheck_plan_from_listing is for an engineer's machine, not for a box. The texts of a box are at most
  * PLANCHECK_NETWORK_TEXT_MAX and PLANCHECK_PLAN_TEXT_MAX.
  *
