@@ -33,7 +33,7 @@ use Rattle.step_rows.proofs.Ledger.{part-holds, next-written}
 use Rattle.step_rows.proofs.WaitingTexts.{outside-is, add-ready, step-offers, next-ready, waiting-next}
 use Rattle.step_limits.specs.Limits.{LimitsKept}
 use Rattle.step_limits.proofs.Texts.{keeps-paper}
-use Rattle.step_check.specs.Step.{row_before, made_row, step_rules_in, JudgeAsked, Judged}
+use Rattle.step_check.specs.Step.{row_before, made_row, step_rules_in, JudgeAsked, StepJudged}
 use Rattle.step_check.proofs.Texts.{rules-are}
 use Rattle.plan_steps.specs.declared.State.{State}
 use Rattle.plan_steps.specs.declared.Lines.{Lines}
@@ -212,7 +212,7 @@ module _ {run : Run} {state : State} {signals : List Signal} {arrivals : List Ar
                     (entered-word net pln asked.tables.holds (suc n) asked.more (keeps kept)) (left_word net pln asked.tables.holds (suc n) asked.more (keeps kept));
               }
 
-          module _ {v : Verdict} {row' : List ℕ} (judged : Judged step (row_before step) row v row') where
+          module _ {v : Verdict} {row' : List ℕ} (judged : StepJudged step (row_before step) row v row') where
             -- the judgement is the paper's verdict on the line
             line-judged : v ≡ verdict (line_checks net pln n)
             line-judged =

@@ -5,7 +5,7 @@ use Rattle.base_search.specs.Checks.{refusal, Verdict}
 use Rattle.base_search.proofs.Table.{RulesKept, ItemsKept, items-none, items_more, rules-more, items-broken, rules-all}
 use Rattle.step_rows.specs.declared.Step.{Step}
 use Rattle.step_rows.specs.Rows.{Fits}
-use Rattle.step_check.specs.Step.{first_sum, rule_number, rule_items, made_row, FormedFor, rule_holds, RuleRows, step_rules_in, JudgeAsked, Judged}
+use Rattle.step_check.specs.Step.{first_sum, rule_number, rule_items, made_row, FormedFor, rule_holds, RuleRows, step_rules_in, JudgeAsked, StepJudged}
 use Rattle.step_check.proofs.Pass.{made-same, made-rest}
 use Rattle.step_check.proofs.Rules.{rule_of, sum-place, formed-once, other_row, rule-in-order, rules-size, limits-kept, rows-made}
 use Rattle.std.specs.Prelude.{Ok, Err}
@@ -75,14 +75,14 @@ module _ {step : Step} {previous row : List ℕ} where
     rule-kept l = rw (made_again w) at (rules-more kept (rule-in-order step previous _ k h) l)
 
     pub broken-here : item < rule_items step.counts (rule_of k) → {r : Bool} → r ≡ rule_holds step previous row' (rule_of k) item → r ≡ false
-        → {refused : Refusal} → refused ≡ refusal (rule_number (rule_of k)) (step.boundary + 1) (item + 1) → {after : List ℕ} → Judged step previous row (Err refused) after
+        → {refused : Refusal} → refused ≡ refusal (rule_number (rule_of k)) (step.boundary + 1) (item + 1) → {after : List ℕ} → StepJudged step previous row (Err refused) after
     broken-here l e t is = record {
       told = ap Err is ∙ rw (made_again w) at (items-broken kept (rule-in-order step previous _ k h) (step.boundary + 1) (omega (arith, rules-size step previous (made_row step previous row'))) l (e ∙ by-made) (ap not t));
       made = λ p. cc;
     }
 
   pub none-broken : {k : ℕ} {row' : List ℕ} {found : Verdict} → 13 ≤ k → found ≡ Ok tt → RulesKept (step_rules_in step previous row) k → RowBefore step previous row k row'
-      → Judged step previous row found row'
+      → StepJudged step previous row found row'
   none-broken h e kept w = record {
     told = e ∙ sym (rules-all (step.boundary + 1) kept (omega (arith, rules-size step previous (made_row step previous row))));
     made = λ p. w.late (omega arith);

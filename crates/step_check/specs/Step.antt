@@ -79,11 +79,11 @@ pub record JudgeAsked (step : Step) (previous row : List ℕ) : Type 0 where
   pub fits : LimitsKept step → Fits step.counts step.plan_line.now step.movements.now previous row
 
 -- .. and promises: the first broken rule; and where all are kept, the row after the step
-pub record Judged (step : Step) (previous row : List ℕ) (result : Verdict) (after : List ℕ) : Type 0 where
+pub record StepJudged (step : Step) (previous row : List ℕ) (result : Verdict) (after : List ℕ) : Type 0 where
   pub told : result ≡ verdict (table (step.boundary + 1) (step_rules_in step previous row))
   pub made : result ≡ Ok tt → after ≡ made_row step previous row
 
 -- what a pass over all rules promises: if it says that they are kept, they are; and past the row nothing is written
 pub record PassGot (step : Step) (previous row : List ℕ) (result : Bool) (after : List ℕ) : Type 0 where
-  pub told : result ≡ true → Judged step previous row (Ok tt) after
+  pub told : result ≡ true → StepJudged step previous row (Ok tt) after
   pub alone : RowAlone step.counts row after

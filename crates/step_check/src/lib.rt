@@ -6,7 +6,7 @@
 
 ghost use Rattle.std.specs.Prelude.{◌≡◌, ◌*◌, ◌<◌, ◌≤◌, length};
 ghost use Rattle.step_rows.specs.Rows.{Fits};
-ghost use Rattle.step_check.specs.Step.{rule_number, rule_items, first_sum, row_before, FormedFor, rule_holds, RuleRows, JudgeAsked, Judged, PassGot};
+ghost use Rattle.step_check.specs.Step.{rule_number, rule_items, first_sum, row_before, FormedFor, rule_holds, RuleRows, JudgeAsked, StepJudged, PassGot};
 
 use base_search::Refusal;
 use network_tables::Counts;
@@ -107,7 +107,7 @@ fn form_row_for(rule: Rule, step: &Step, previous: &[u32], row: &mut [u32])
 // 10 to 18.
 fn first_break(step: &Step, previous: &[u32], row: &mut [u32]) -> Result<(), Refusal>
     requires { JudgeAsked step.now previous.now row.old }
-    ensures { Judged step.now previous.now row.old result row.new }
+    ensures { StepJudged step.now previous.now row.old result row.new }
 {
     let mut found = Ok(());
     'judge: for rule in RULES {
@@ -148,7 +148,7 @@ fn keeps_rules(step: &Step, previous: &[u32], row: &mut [u32]) -> bool
 // Judges a step, and forms the row after it in a lent row.
 pub fn judge_step(step: &Step, row: &mut [u32]) -> Result<(), Refusal>
     requires { JudgeAsked step.now (row_before step.now) row.old }
-    ensures { Judged step.now (row_before step.now) row.old result row.new }
+    ensures { StepJudged step.now (row_before step.now) row.old result row.new }
 {
     let start = network_tables::row_start(step.boundary, step.counts.links);
     let previous = &step.ledger[start..];

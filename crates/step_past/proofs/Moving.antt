@@ -103,15 +103,6 @@ module _ {tables : NetworkTables} {at i to : ℕ} {before : List Arrival} (asked
     own_behind : Behind tables.text.now tables.times.now at i (travel_time_in tables.links.now i) (arrival_at arrivals i)
     own_behind = inv.behind i (omega arith) asked.asked.link
 
-    pub past-arrived : to ≤ (arrival_at arrivals i).step → Moved tables at i before arrivals
-    past-arrived h =
-        record {
-          size = inv.size;
-          arrived = omega (arith, own_behind.cursor.behind, asked.is-step);
-          behind = inv.behind;
-          kept = inv.kept;
-        }
-
     module _ (h : (arrival_at arrivals i).step < to) where
       abbrev from : ℕ
       from = (arrival_at arrivals i).step

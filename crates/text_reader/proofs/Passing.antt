@@ -9,27 +9,27 @@ use Rattle.text_reader.specs.declared.FieldNumber.{FieldNumber}
 use Rattle.text_reader.specs.declared.Passed.{Passed}
 use Rattle.text_reader.specs.Lines.{split, number_of, number}
 use Rattle.text_reader.specs.Reading.{line_at, next_line, leading, field_at, separator, tabbed_at}
-use Rattle.text_reader.specs.Passing.{block_size, weight, separators, Passing, FieldsPassed, stays_in_line, InLine, LineEnds}
+use Rattle.text_reader.specs.Passing.{block_size, separator_weight, separators, Passing, FieldsPassed, stays_in_line, InLine, LineEnds}
 use Rattle.text_reader.proofs.Bytes.{piece, piece-feed}
 use Rattle.text_reader.proofs.Places.{end_of, next-piece, field_past, field-more, field-stop, past-field, past-tab, tab-within, past-none, found, absent-reads}
 
 -- ---- what a byte counts
-pub weight-tab : (b : ℕ) → b ≡ 9 → weight b ≡ 1
-unfolding weight
-weight-tab b e = rw (eq-eqb b 9 e)
+pub separator_weight-tab : (b : ℕ) → b ≡ 9 → separator_weight b ≡ 1
+unfolding separator_weight
+separator_weight-tab b e = rw (eq-eqb b 9 e)
 
-pub weight-feed : (b : ℕ) → b ≡ 10 → weight b ≡ 15
-unfolding weight
-weight-feed b e = rw e
+pub separator_weight-feed : (b : ℕ) → b ≡ 10 → separator_weight b ≡ 15
+unfolding separator_weight
+separator_weight-feed b e = rw e
 
-pub weight-other : (b : ℕ) → b ≢ 9 → b ≢ 10 → weight b ≡ 0
-unfolding weight
-weight-other b t f = rw (ne_eqb b 9 t, ne_eqb b 10 f)
+pub separator_weight-other : (b : ℕ) → b ≢ 9 → b ≢ 10 → separator_weight b ≡ 0
+unfolding separator_weight
+separator_weight-other b t f = rw (ne_eqb b 9 t, ne_eqb b 10 f)
 
-weight-most : (b : ℕ) → weight b ≤ 15
-weight-most b = elim (ℕ_discrete b 9) [
-  | yes t ↦ omega (arith, weight-tab b t)
-  | no t ↦ elim (ℕ_discrete b 10) [ yes f ↦ omega (arith, weight-feed b f) | no f ↦ omega (arith, weight-other b t f) ]
+separator_weight-most : (b : ℕ) → separator_weight b ≤ 15
+separator_weight-most b = elim (ℕ_discrete b 9) [
+  | yes t ↦ omega (arith, separator_weight-tab b t)
+  | no t ↦ elim (ℕ_discrete b 10) [ yes f ↦ omega (arith, separator_weight-feed b f) | no f ↦ omega (arith, separator_weight-other b t f) ]
 ]
 
 -- ---- the turns of `separators_in`
@@ -38,7 +38,7 @@ module _ (text : List ℕ) (at : ℕ) where
   unfolding sum
   separators-none = refl
 
-  module _ {sum' w : ℕ} (k : ℕ) (e : sum' ≡ separators text at k) (u : w ≡ weight (get_or text (at + k) 0)) where
+  module _ {sum' w : ℕ} (k : ℕ) (e : sum' ≡ separators text at k) (u : w ≡ separator_weight (get_or text (at + k) 0)) where
     pub separators-more : sum' + w ≡ separators text at (k + 1)
     unfolding sum
     separators-more = rw add-one (omega (arith, e, u))
@@ -46,7 +46,7 @@ module _ (text : List ℕ) (at : ℕ) where
     -- they fit 8 bits
     pub separators-fit : k < block_size → sum' + w < 256
     separators-fit h =
-        omega (arith, separators-more, sum_bound (k + 1) 15 (λ j. weight (get_or text (at + j) 0)) (λ j l. weight-most (get_or text (at + j) 0)))
+        omega (arith, separators-more, sum_bound (k + 1) 15 (λ j. separator_weight (get_or text (at + j) 0)) (λ j l. separator_weight-most (get_or text (at + j) 0)))
 
 -- ---- from one place to another in a line, past n fields
 record Past (text : List ℕ) (at n there : ℕ) : Type 0 where
@@ -63,17 +63,17 @@ module _ {text : List ℕ} {at there : ℕ} where
 
 -- past a byte
 module _ (text : List ℕ) (at : ℕ) (h : at < length text) where
-  byte-past : get_or text at 0 ≢ 10 → Past text at (weight (get_or text at 0)) (at + 1)
+  byte-past : get_or text at 0 ≢ 10 → Past text at (separator_weight (get_or text at 0)) (at + 1)
   byte-past f = elim (ℕ_discrete (get_or text at 0) 9) [
     | yes t ↦
         let on = past-tab text at h t in
-        rw (weight-tab (get_or text at 0) t) (record { fields = rw on.fields; next = sym on.next })
+        rw (separator_weight-tab (get_or text at 0) t) (record { fields = rw on.fields; next = sym on.next })
     | no t ↦
         let more = field-more text at h t f in
         let end : end_of text (at + 1) ≡ end_of text at = omega (arith, ap length more) in
         let here = past-field text at in
         let there = rw end at (past-field text (at + 1)) in
-        rw (weight-other (get_or text at 0) t f) (record { fields = there.fields ∙ sym here.fields; next = there.next ∙ sym here.next })
+        rw (separator_weight-other (get_or text at 0) t f) (record { fields = there.fields ∙ sym here.fields; next = there.next ∙ sym here.next })
   ]
 
 -- past a block without a line feed
@@ -82,7 +82,7 @@ unfolding sum
 block-past text at zero h l = rw (add-zero at) (record { fields = refl; next = refl })
 block-past text at (suc n) h l =
     let e : at + suc n ≡ at + n + 1 = omega arith in
-    let f : get_or text (at + n) 0 ≢ 10 = λ q. omega (arith, weight-feed (get_or text (at + n) 0) q) in
+    let f : get_or text (at + n) 0 ≢ 10 = λ q. omega (arith, separator_weight-feed (get_or text (at + n) 0) q) in
     rw e (past-more (block-past text at n (omega arith) (omega arith)) (byte-past text (at + n) (omega arith) f))
 
 -- nothing is left of no fields
@@ -109,11 +109,6 @@ abbrev passed_to : ℕ → ℕ → Passed
 passed_to place left = record { place = place; left = left }
 
 module _ {text : List ℕ} {at n : ℕ} where
-  pub pass-begin : at ≤ length text → Passing text at n (passed_to at n)
-  pass-begin h =
-      let z : n - n ≡ 0 = omega arith in
-      record { within = h; few = omega arith; fields = rw z; next = refl }
-
   module _ {place left : ℕ} (inv : Passing text at n (passed_to place left)) where
     onward : {count there : ℕ} → count ≤ left → there ≤ length text → Past text place count there → Passing text at n (passed_to there (left - count))
     onward {count} {there} few within past =
@@ -135,13 +130,13 @@ module _ {text : List ℕ} {at n : ℕ} where
       pub pass-tab : separator (get_or text place 0) ≡ true → get_or text place 0 ≢ 10 → left ≢ 0 → Passing text at n (passed_to (place + 1) (left - 1))
       pass-tab s f l =
           let t = separates (get_or text place 0) s f in
-          onward (omega arith) (omega arith) (rw (weight-tab (get_or text place 0) t) at (byte-past text place h f))
+          onward (omega arith) (omega arith) (rw (separator_weight-tab (get_or text place 0) t) at (byte-past text place h f))
 
       pub pass-other : separator (get_or text place 0) ≡ false → Passing text at n (passed_to (place + 1) left)
       pass-other s =
           let no = separates-not (get_or text place 0) s in
           let z : left - 0 ≡ left = omega arith in
-          rw z at (onward {count = 0} (omega arith) (omega arith) (rw (weight-other (get_or text place 0) no.0 no.1) at (byte-past text place h no.1)))
+          rw z at (onward {count = 0} (omega arith) (omega arith) (rw (separator_weight-other (get_or text place 0) no.0 no.1) at (byte-past text place h no.1)))
 
     -- a field ends here, and all are passed or the line has no more
     pass-end : field_at text place ≡ [] → (get_or text place 0 ≡ 9 → left ≡ 0) → FieldsPassed text at n place

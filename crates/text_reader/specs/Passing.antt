@@ -12,12 +12,12 @@ abbrev pub block_size : ℕ
 block_size = 16
 
 -- what a byte counts among the separators of a block: a tab 1, a line feed 15
-unfoldable pub weight : ℕ → ℕ
-weight b = cond (eqb b 9) 1 (cond (eqb b 10) 15 0)
+unfoldable pub separator_weight : ℕ → ℕ
+separator_weight b = cond (eqb b 9) 1 (cond (eqb b 10) 15 0)
 
 -- the separators of n bytes from a place on
 abbrev pub separators : List ℕ → ℕ → ℕ → ℕ
-separators text at n = sum n (λ k. weight (get_or text (at + k) 0))
+separators text at n = sum n (λ k. separator_weight (get_or text (at + k) 0))
 
 -- From one place to another in a line: of n fields that are to be passed so many are left.
 pub record Passing (text : List ℕ) (at n : ℕ) (passed : Passed) : Type 0 where

@@ -5,7 +5,7 @@ ghost use Rattle.std.specs.Prelude.{◌≡◌, ◌+◌, ◌-◌, ◌*◌, ◌≤
 ghost use Rattle.text_reader.specs.Field.{digit, largest};
 ghost use Rattle.text_reader.specs.Lines.{starts_as};
 ghost use Rattle.text_reader.specs.Reading.{line_at, leading_as, field_at, separator, rest_at, DigitsRead, starts_with, tab_before_sentinel, tabbed_at, EndsAs, ended_by_line_feed, record_at, at_end, Got, GotNumbers, GotNumbersAs};
-ghost use Rattle.text_reader.specs.Passing.{block_size, weight, separators, Passing, FieldsPassed, stays_in_line, InLine, LineEnds, line_number};
+ghost use Rattle.text_reader.specs.Passing.{block_size, separator_weight, separators, Passing, FieldsPassed, stays_in_line, InLine, LineEnds, line_number};
 
 // How many digits a field has at most.
 const MAX_DIGITS: usize = 10;
@@ -292,8 +292,8 @@ pub fn head_at(text: &[u8], at: usize, letter: u8, out: &mut [u32]) -> bool
 }
 
 // A byte among the separators of a block.
-fn weight(b: u8) -> u8
-    ensures { result ≡ weight b }
+fn separator_weight(b: u8) -> u8
+    ensures { result ≡ separator_weight b }
 {
     match b {
         b'\t' => 1,
@@ -309,7 +309,7 @@ fn separators_in(text: &[u8], at: usize) -> u8
 {
     let mut sum: u8 = 0;
     for k in 0..BLOCK {
-        sum += weight(text[at + k]);
+        sum += separator_weight(text[at + k]);
     }
     sum
 }

@@ -6,7 +6,7 @@ pub loop-k-init : goal.loop-k-init
 loop-k-init c = separators-none c.args.text.now c.args.at
 
 pub overflow_add-sum : goal.overflow_add-sum
-overflow_add-sum c = let h = separators-fit _ _ _ c.loop-k.invariant c.weight-sum.ensures (search rules) in search rules
+overflow_add-sum c = let h = separators-fit _ _ _ c.loop-k.invariant c.separator_weight-sum.ensures (search rules) in search rules
 
 pub loop-k-preserved : goal.loop-k-preserved
-loop-k-preserved c = separators-more _ _ _ c.loop-k.invariant c.weight-sum.ensures
+loop-k-preserved c = separators-more _ _ _ c.loop-k.invariant c.separator_weight-sum.ensures
