@@ -4,11 +4,11 @@ use Rattle.std.specs.Prelude.{map, Ok}
 use Rattle.std.specs.List.{list_all}
 use Rattle.std.proofs.lemmas.List.{get_or-map}
 use Rattle.std.proofs.lemmas.List.Folds.{list_all_at}
-use Rattle.base_search.specs.Checks.{rule_at, no_rule, verdict, table}
-use Rattle.base_search.proofs.Laws.{passes-of-hold}
+use Rattle.base_search.specs.Checks.{rule_at, no_rule, verdict, table, Hold}
+use Rattle.base_search.proofs.Laws.{hold-of-passes, passes-of-hold}
 use Rattle.base_search.proofs.Table.{Kept, RulesKept, AllKept, kept-hold}
 use Rattle.network_tables.specs.Fields.{length_in}
-use Rattle.step_signals.specs.declared.SignalRule.TheVariants.{OnePhase}
+use Rattle.step_signals.specs.declared.SignalRule.TheVariants.{OnePhase, TramPhase, Order, LeastTime, GreatestTime, Cycle}
 use Rattle.step_signals.specs.Rules.{SignalRulesKept}
 use Rattle.step_rows.specs.declared.Step.{Step}
 use Rattle.step_rows.specs.Rows.{next_row, Fits}
@@ -97,6 +97,31 @@ module _ (step : Step) (previous row : List ℕ) where
     pub all_pass : (line : ℕ) → verdict (table line (rules_in step previous row)) ≡ Ok tt
     unfolding rules_in
     all_pass line = passes-of-hold _ (kept-hold line _ (all-kept rules))
+
+  -- where the table passes, each family is kept
+  module _ (line : ℕ) (passed : verdict (table line (rules_in step previous row)) ≡ Ok tt) where
+    rules-passed : RulesKept (rules_in step previous row) 13
+    unfolding Hold table
+    rules-passed = record { kept = λ k l. hold-of-passes (table line (rules_in step previous row)) passed k (omega (arith, rules-size)) }
+
+    pub signals-passed : SignalRulesKept step.signals.now step.counts.signals step.phases.now step.asked.now (length_in step.step_line.now)
+    unfolding rules_in rule_holds
+    signals-passed r l OnePhase = rules-passed.kept 0 (omega arith) r l
+    signals-passed r l TramPhase = rules-passed.kept 1 (omega arith) r l
+    signals-passed r l Order = rules-passed.kept 2 (omega arith) r l
+    signals-passed r l LeastTime = rules-passed.kept 3 (omega arith) r l
+    signals-passed r l GreatestTime = rules-passed.kept 4 (omega arith) r l
+    signals-passed r l Cycle = rules-passed.kept 5 (omega arith) r l
+
+    pub limits-passed : LimitsKept step
+    limits-passed = limits-kept (record { kept = λ k l. rules-passed.kept k (omega arith) })
+
+    pub sums-passed : SumsKept step previous row
+    unfolding rules_in rule_holds sum_rule_holds
+    sums-passed = record {
+      of-movements = λ j l. rules-passed.kept 10 (omega arith) j l;
+      of-links = λ i l. (rules-passed.kept 11 (omega arith) i l, rules-passed.kept 12 (omega arith) i l);
+    }
 
   -- the rows that the sums read, once the row after the step is formed
   pub rows-made : Fits step.counts step.plan_line.now step.movements.now previous row → SumRows step previous (made_row step previous row)

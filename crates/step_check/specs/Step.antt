@@ -83,7 +83,8 @@ pub record StepJudged (step : Step) (previous row : List ℕ) (result : Verdict)
   pub told : result ≡ verdict (table (step.boundary + 1) (step_rules_in step previous row))
   pub made : result ≡ Ok tt → after ≡ made_row step previous row
 
--- what a pass over all rules promises: if it says that they are kept, they are; and past the row nothing is written
+-- what a pass over all rules promises: it says that they are kept exactly where they are; and past the row nothing is written
 pub record PassGot (step : Step) (previous row : List ℕ) (result : Bool) (after : List ℕ) : Type 0 where
   pub told : result ≡ true → StepJudged step previous row (Ok tt) after
+  pub passes : verdict (table (step.boundary + 1) (step_rules_in step previous row)) ≡ Ok tt → result ≡ true
   pub alone : RowAlone step.counts row after

@@ -1,8 +1,8 @@
 -- One turn of each pass over the limits, and what both have found and formed. Where the sums fit, these are the turns of `step_rows`.
 use Rattle.std.proofs.Common.{below_more}
-use Rattle.base_laws.proofs.Kit.{◌≡◌, Bool, true, List, ℕ, ◌+◌, ◌<◌, arith}
+use Rattle.base_laws.proofs.Kit.{◌≡◌, sym, ◌∙◌, Bool, true, false, List, ℕ, ◌+◌, ◌<◌, arith}
 use Rattle.base_laws.specs.Test.{◌and◌}
-use Rattle.base_laws.proofs.Tests.{and_left, and_right}
+use Rattle.base_laws.proofs.Tests.{and_left, and_right, and_both}
 use Rattle.network_tables.specs.Fields.{movement_at, moved_in}
 use Rattle.step_rows.specs.declared.Step.{Step}
 use Rattle.step_rows.specs.Rows.{with_link, with_movement, RowAlone}
@@ -10,7 +10,12 @@ use Rattle.step_rows.proofs.Lists.{begun-none}
 use Rattle.step_rows.proofs.Turns.{base-turn, alone-then}
 use Rattle.step_rows.proofs.Scatter.{added_none, added-turn}
 use Rattle.step_rows.proofs.Next.{next-base, next-room, next-is}
-use Rattle.step_limits.specs.Limits.{admits_offer, lets_out_rate, moves_rate, moves_open, MovementKept, LinksPassed, MovementsPassed, RowGot}
+use Rattle.step_limits.specs.Limits.{admits_offer, lets_out_rate, moves_rate, moves_open, MovementKept, MovementLimitsKept, LinksPassed, MovementsPassed, RowGot}
+
+-- where a movement breaks its limits, not all are kept
+pub movement-stops : (step : Step) {m : ℕ} → m < step.counts.movements → {b : Bool} → b ≡ (moves_rate step m and moves_open step m) → b ≡ false
+    → MovementLimitsKept step step.counts.movements → false ≡ true
+movement-stops step h is broken kept = sym broken ∙ is ∙ and_both _ _ (kept _ h).0 (kept _ h).1
 
 module _ {step : Step} {before : List ℕ} where
   pub no-links : {previous : List ℕ} → LinksPassed step previous before 0 before
@@ -35,9 +40,9 @@ module _ {step : Step} {before : List ℕ} where
 
   -- the links have passed, and the movements are gone over
   pub both-passes : {previous middle row : List ℕ} → LinksPassed step previous before step.counts.links middle → RowAlone step.counts before middle → {b : Bool}
-      → (b ≡ true → MovementsPassed step middle step.counts.movements row) → RowAlone step.counts middle row → RowGot step previous before b row
-  both-passes links alone movements more = record {
-    kept = λ t. record { of-links = links.kept; of-movements = (movements t).kept };
+      → (MovementLimitsKept step step.counts.movements → b ≡ true) → (b ≡ true → MovementsPassed step middle step.counts.movements row) → RowAlone step.counts middle row → RowGot step previous before b row
+  both-passes links alone complete movements more = record {
+    kept = (λ t. record { of-links = links.kept; of-movements = (movements t).kept }, λ kept. complete kept.of-movements);
     made = λ t fits. let begun = links.begun (next-base fits) in next-is fits begun ((movements t).added (next-room fits begun));
     alone = alone-then alone more;
   }

@@ -1,5 +1,5 @@
 -- Rules 15 and 25 to 27 at one step, as tests of the program's tables. Links, movements and signals are counted from 0, a link's signal and a movement's links from 1.
-use Rattle.std.specs.Prelude.{◌≡◌, Bool, true, List, ◌++◌, ℕ, ◌*◌, ◌-◌, ◌<◌, leb, eqb, get_or, drop}
+use Rattle.std.specs.Prelude.{◌≡◌, ◌↔◌, Bool, true, List, ◌++◌, ℕ, ◌*◌, ◌-◌, ◌<◌, leb, eqb, get_or, drop}
 use Rattle.base_laws.specs.Test.{◌or◌}
 use Rattle.model.specs.Signals.{opens}
 use Rattle.network_tables.specs.declared.Counts.{Counts}
@@ -77,9 +77,9 @@ pub record MovementsPassed (step : Step) (before : List ℕ) (m : ℕ) (row : Li
   pub kept : MovementLimitsKept step m
   pub added : Room step.counts step.plan_line.now step.movements.now before → Added step.counts step.plan_line.now step.movements.now before m row
 
--- what a pass over all limits promises, by the row before the step, and the row that is lent, before and after the pass
+-- what a pass over all limits promises, by the row before the step, and the row that is lent, before and after the pass: it says true exactly where every limit is kept
 pub record RowGot (step : Step) (previous before : List ℕ) (result : Bool) (row : List ℕ) : Type 0 where
-  pub kept : result ≡ true → LimitsKept step
+  pub kept : (result ≡ true) ↔ LimitsKept step
   pub made : result ≡ true → Fits step.counts step.plan_line.now step.movements.now previous before
       → row ≡ next_row step.counts step.plan_line.now step.movements.now previous ++ drop (2 * step.counts.links) before
   pub alone : RowAlone step.counts before row

@@ -5,7 +5,7 @@
 ghost use Rattle.std.specs.Prelude.{◌≡◌, ◌*◌, ◌<◌, ◌≤◌, leb, length, true};
 ghost use Rattle.network_tables.specs.Fields.{row_size};
 ghost use Rattle.step_rows.specs.Rows.{RowAlone};
-ghost use Rattle.step_limits.specs.Limits.{limit_rule_number, admits_offer, lets_out_rate, is_open_in, moves_rate, moves_open, limit_items, limit_rule_holds, LinksPassed, MovementsPassed, RowGot};
+ghost use Rattle.step_limits.specs.Limits.{limit_rule_number, admits_offer, lets_out_rate, is_open_in, moves_rate, moves_open, limit_items, limit_rule_holds, LinkLimitsKept, MovementLimitsKept, LinksPassed, MovementsPassed, RowGot};
 ghost use Rattle.base_laws.specs.Test.{◌and◌};
 
 use network_tables::{Counts, admitted, let_out, moved};
@@ -134,6 +134,7 @@ fn moves_within(step: &Step, j: usize) -> bool
 // Whether all links keep 15 and 25. The row is begun with each that does.
 fn links_within_limits(step: &Step, previous: &[u32], row: &mut [u32]) -> bool
     requires { (2 * step.now.counts.links ≤ length previous.now) × (length row.old ≡ row_size) }
+    ensures complete { LinkLimitsKept step.now step.now.counts.links → result ≡ true }
     ensures passed { result ≡ true → LinksPassed step.now previous.now row.old step.now.counts.links row.new }
     ensures alone { RowAlone step.now.counts row.old row.new }
 {
@@ -149,6 +150,7 @@ fn links_within_limits(step: &Step, previous: &[u32], row: &mut [u32]) -> bool
 // Whether all movements keep 26 and 27. Each that does is added to the row.
 fn movements_within_limits(step: &Step, row: &mut [u32]) -> bool
     requires { length row.old ≡ row_size }
+    ensures complete { MovementLimitsKept step.now step.now.counts.movements → result ≡ true }
     ensures passed { result ≡ true → MovementsPassed step.now row.old step.now.counts.movements row.new }
     ensures alone { RowAlone step.now.counts row.old row.new }
 {

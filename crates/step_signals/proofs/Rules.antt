@@ -34,6 +34,19 @@ module _ (s : Signal) (q asked seconds : ℕ) where
   unfolding keeps_all
   keeps-each h = ⊎_elim (λ e. in_ordinary e (search (h, e))) (λ e. in_trams e (search (h, e))) (either_way (eqb asked 0))
 
+  -- and one that keeps each keeps them all
+  each-ordinary : eqb asked 0 ≡ true → ((rule : SignalRule) → signal_test rule s q asked seconds ≡ true) → keeps_ordinary_rules s q seconds ≡ true
+  unfolding keeps_ordinary_rules signal_test ◌and◌ ◌or◌
+  each-ordinary e h = rw (h OnePhase, rw e at (h Order), rw e at (h LeastTime), rw e at (h GreatestTime), rw e at (h Cycle))
+
+  each-trams : eqb asked 0 ≡ false → ((rule : SignalRule) → signal_test rule s q asked seconds ≡ true) → shows_one_phase q and eqb q asked ≡ true
+  unfolding signal_test ◌and◌ ◌or◌
+  each-trams e h = rw (h OnePhase, rw e at (h TramPhase))
+
+  pub each-keeps : ((rule : SignalRule) → signal_test rule s q asked seconds ≡ true) → keeps_all s q asked seconds ≡ true
+  unfolding keeps_all
+  each-keeps h = ⊎_elim (λ e. rw e (each-ordinary e h)) (λ e. rw e (each-trams e h)) (either_way (eqb asked 0))
+
 -- one that goes on keeps the rules of an ordinary step
 never_both : (b : Bool) → b && not b ≡ false
 never_both true = refl

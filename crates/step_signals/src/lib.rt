@@ -3,7 +3,7 @@
 // The definitions stand in specs/ of crate model.
 #![tactic(auto)]
 
-ghost use Rattle.std.specs.Prelude.{◌≡◌, true, ◌-◌, ◌^◌, ◌≤◌, length};
+ghost use Rattle.std.specs.Prelude.{◌≡◌, ◌↔◌, true, ◌-◌, ◌^◌, ◌≤◌, length};
 ghost use Rattle.model.specs.Network.{max_signals};
 ghost use Rattle.model.specs.Signals.{phase_of, opens, phase_after, begins_cycle, greatest_time, shown_for_after, clock_after, keeps_order, keeps_least_time, keeps_greatest_time, keeps_cycle, after};
 ghost use Rattle.step_signals.specs.Ready.{Ready, AllReady};
@@ -260,7 +260,7 @@ pub fn keeps_signal_rules(
     seconds: u32,
 ) -> bool
     requires { SignalTables signals.now count phases.now asked.now seconds }
-    ensures { result ≡ true → SignalRulesKept signals.now count phases.now asked.now seconds }
+    ensures { (result ≡ true) ↔ SignalRulesKept signals.now count phases.now asked.now seconds }
 {
     (0..count).all(|r| signal_keeps(&signals[r], phases[r], asked[r], seconds))
 }

@@ -1,7 +1,7 @@
 // Rules 16 to 18 of the plan check, by sums of volumes: shares, arrivals and capacities, once the row after the step is formed.
 #![tactic(auto)]
 
-ghost use Rattle.std.specs.Prelude.{◌≡◌, ◌+◌, ◌<◌, true};
+ghost use Rattle.std.specs.Prelude.{◌≡◌, ◌↔◌, ◌+◌, ◌<◌, true};
 ghost use Rattle.network_tables.specs.Fields.{let_out_in, left_in};
 ghost use Rattle.step_sums.specs.Sums.{keeps_share, entered_before, entered_after, leaves_arrived, fits_capacity, sum_rule_number, sum_items, sum_rule_holds, SharesKept, LinkSumsKept, SumsKept, SumRows};
 
@@ -123,21 +123,21 @@ impl StepRows<'_> {
     // Whether all movements keep 16, in one pass over them. By index here and below, since a rule takes an item's
     // index.
     fn keeps_shares(&self) -> bool
-        ensures { result ≡ true → SharesKept self.now.step.now self.now.step.now.counts.movements }
+        ensures { (result ≡ true) ↔ SharesKept self.now.step.now self.now.step.now.counts.movements }
     {
         (0..self.step.counts.movements).all(|j| self.keeps_share(j))
     }
 
     // Whether all links keep 17 and 18, in one pass over them.
     fn keeps_link_sums(&self) -> bool
-        ensures { result ≡ true → LinkSumsKept self.now.step.now self.now.previous.now self.now.row.now self.now.step.now.counts.links }
+        ensures { (result ≡ true) ↔ LinkSumsKept self.now.step.now self.now.previous.now self.now.row.now self.now.step.now.counts.links }
     {
         (0..self.step.counts.links).all(|i| self.fits_capacity(i) && self.leaves_arrived(i))
     }
 
     // Whether rules 16 to 18 are kept.
     pub fn keeps_sums(&self) -> bool
-        ensures { result ≡ true → SumsKept self.now.step.now self.now.previous.now self.now.row.now }
+        ensures { (result ≡ true) ↔ SumsKept self.now.step.now self.now.previous.now self.now.row.now }
     {
         self.keeps_link_sums() && self.keeps_shares()
     }
