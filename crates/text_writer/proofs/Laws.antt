@@ -35,8 +35,8 @@ digits-numeral (suc d) n = elim (dec_le 10 n) [
   | no h ↦ let l : n < 10 = omega arith in let e : n % 10 ≡ n = omega arith in rw (lt-ltb n 10 l, e)
 ]
 
-pub digits_none : (at n count : ℕ) → count ≡ length (numeral 19 n) → digits (at + count - at) n ≡ numeral 19 n
-digits_none at n count e = let f : at + count - at ≡ length (numeral 19 n) = omega arith in rw f (digits-numeral 19 n)
+pub digits_none : (at end n : ℕ) → end ≡ at + length (numeral 19 n) → digits (end - at) n ≡ numeral 19 n
+digits_none at end n e = let f : end - at ≡ length (numeral 19 n) = omega arith in rw f (digits-numeral 19 n)
 
 -- how many digits, by the power of ten that is just below; 0 has as many as 1
 pub numeral_count : (d k n : ℕ) → k ≤ d → 10 ^ k ≤ max n 1 → max n 1 < 10 * 10 ^ k → 1 + k ≡ length (numeral d n)
@@ -65,6 +65,16 @@ module _ (at : ℕ) (old : List ℕ) where
   pub put-more : (a b : List ℕ) → at + length a + length b ≤ length old → put_at (at + length a) b (put_at at a old) ≡ put_at at (a ++ b) old
   put-more a b h = simp (put-paste, length-append) (paste-paste old at a b (length a) (length b) refl refl (omega arith))
 
+-- a byte that is set behind a text is the text's last
+put-last : (at place b : ℕ) (text out : List ℕ) → place ≡ at + length text → place < length out
+    → put_at at text (set out place b) ≡ put_at at (text ++ (b ∷ [])) out
+unfolding put_at
+put-last at place b text out e h =
+    let before : at ≤ place = omega arith in
+    let q : at + length text ≡ place = omega arith in
+    let p : at + (length text + 1) ≡ place + 1 = omega arith in
+    simp (length-append, p, q, append_assoc, take-set-le, drop-set)
+
 digits-length : (k n : ℕ) → length (digits k n) ≡ k
 unfolding digits
 digits-length zero n = refl
@@ -74,19 +84,37 @@ digits-length (suc k) n = rw (length-append, digits-length k (n / 10)) (omega ar
 module _ (at place n : ℕ) (out : List ℕ) where
   pub digits_more : at < place → place ≤ length out
       → put_at at (digits (place - 1 - at) (n / 10)) (set out (place - 1) (48 + n % 10)) ≡ put_at at (digits (place - at) n) out
-  unfolding put_at digits
+  unfolding digits
   digits_more h l =
       let k : place - at ≡ suc (place - 1 - at) = omega arith in
-      let p : at + (place - 1 - at + 1) ≡ place - 1 + 1 = omega arith in
-      let q : at + (place - 1 - at) ≡ place - 1 = omega arith in
       let d = digits-length (place - 1 - at) (n / 10) in
-      let before : at ≤ place - 1 = omega arith in
-      let within : place - 1 < length out = omega arith in
-      simp (k, length-append, d, p, q, append_assoc, take-set-le, drop-set)
+      rw k (put-last at (place - 1) (48 + n % 10) (digits (place - 1 - at) (n / 10)) out (omega arith) (omega arith))
 
   pub digits_all : place ≤ at → put_at at (digits (place - at) n) out ≡ out
   unfolding digits
   digits_all h = let e : place - at ≡ 0 = omega arith in rw (e, ← put-none)
+
+-- ---- a number from its last digit on, by the numerals of what is left
+-- a higher bound on the digits changes no number that keeps to the lower one
+numeral-same : (d n : ℕ) → n < 10 ^ suc d → numeral (suc d) n ≡ numeral d n
+numeral-same zero n h = let s : n < 10 = omega arith in numeral-short 1 n s ∙ sym (numeral-short 0 n s)
+numeral-same (suc d) n h = elim (dec_le 10 n) [
+  | yes l ↦ rw (numeral-long (suc d) n l, numeral-long d n l, numeral-same d (n / 10) (omega (arith, pow-suc 10 (suc d)))) refl
+  | no l ↦ let s : n < 10 = omega arith in numeral-short (suc (suc d)) n s ∙ sym (numeral-short (suc d) n s)
+]
+
+-- its last digit, and before it a tenth of it
+numeral_more : (n : ℕ) → 10 ≤ n → n < 10 ^ 20 → numeral 19 n ≡ numeral 19 (n / 10) ++ ((48 + n % 10) ∷ [])
+numeral_more n h l = numeral-long 18 n h ∙ ap (λ (x : List ℕ). x ++ ((48 + n % 10) ∷ [])) (sym (numeral-same 18 (n / 10) (omega arith)))
+
+pub numeral_fewer : (n : ℕ) → 10 ≤ n → n < 10 ^ 20 → length (numeral 19 n) ≡ length (numeral 19 (n / 10)) + 1
+numeral_fewer n h l = rw (numeral_more n h l, length-append) refl
+
+pub put_digit : (at place n : ℕ) (out : List ℕ) → 10 ≤ n → n < 10 ^ 20 → place ≡ at + length (numeral 19 n) → place ≤ length out
+    → put_at at (numeral 19 (n / 10)) (set out (place - 1) (48 + n % 10)) ≡ put_at at (numeral 19 n) out
+put_digit at place n out h l e w =
+    let f = numeral_fewer n h l in
+    rw (numeral_more n h l) (put-last at (place - 1) (48 + n % 10) (numeral 19 (n / 10)) out (omega arith) (omega arith))
 
 -- ---- what each function wrote
 pub numeral-length : (d n : ℕ) → length (numeral d n) ≤ suc d

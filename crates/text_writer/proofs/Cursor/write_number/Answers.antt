@@ -1,35 +1,14 @@
-use Rattle.base_laws.proofs.Kit.{◌∙◌, sym, ap, arith, length-set, refl}
-use Rattle.text_writer.specs.Writing.{put_at}
-use Rattle.text_writer.proofs.Laws.{digits_none, digits_more, digits_all}
+use Rattle.base_laws.proofs.Kit.{ℕ, ◌∙◌, arith, length-set}
+use Rattle.text_writer.proofs.Laws.{numeral_fewer, put_digit}
 use Rattle.text_writer.proofs.Cursor.write_number.Goals as goal
 
-pub loop-place-init : goal.loop-place-init
-loop-place-init c =
-    record {
-      buffer = refl;
-      start = refl;
-      long = refl;
-      completes = ap (λ t. put_at c.args.self.now.at t c.args.self.now.out.now) (digits_none _ _ _ c.digit_count.ensures.count);
-    }
-
-pub loop-place-preserved : goal.loop-place-preserved
-loop-place-preserved c =
-    let kept = c.loop-place.invariant in
+pub loop-rest-preserved : goal.loop-rest-preserved
+loop-rest-preserved c =
+    let kept = c.loop-rest.invariant in
     record {
       buffer = kept.buffer;
       start = kept.start;
-      long = length-set _ _ _ ∙ kept.long;
-      completes = digits_more _ _ _ _ (omega arith) (omega arith) ∙ kept.completes;
-    }
-
-pub returns : goal.returns
-returns c =
-    let kept = c.loop-place.invariant in
-    record {
-      buffer = kept.buffer;
-      wrote =
-          record {
-            is = rw (← kept.start) (sym (digits_all _ _ _ _ (omega arith)) ∙ kept.completes);
-            ends = omega arith;
-          };
+      within = omega (arith, length-set {A = ℕ});
+      ends = omega (arith, numeral_fewer c.loop-rest.rest (omega arith) (omega arith));
+      completes = put_digit _ _ _ _ (omega arith) (omega arith) kept.ends kept.within ∙ kept.completes;
     }
