@@ -81,6 +81,11 @@ impl Run {
         Ok(run)
     }
 
+    /// Whether nobody moves in a plan that is accepted: it has phases alone.
+    pub fn has_no_volumes(&self) -> bool {
+        self.answer.is_ok() && !self.lines.iter().any(PlanLine::has_volumes)
+    }
+
     /// The step that is refused, counted from 1; none where the plan is accepted or a line behind the last is refused.
     pub fn refused_step(&self) -> Option<usize> {
         (self.answer.is_err() && self.passed < self.network.steps.len()).then_some(self.passed + 1)

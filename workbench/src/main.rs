@@ -6,6 +6,7 @@ mod command;
 mod commands;
 mod faults;
 mod files;
+mod flows;
 mod form;
 mod halves;
 mod json;

@@ -1,7 +1,9 @@
 //! What the lines of a plan say.
 
+use crate::files::Texts;
 use crate::network::Network;
 use crate::records::{lines, record, write_record};
+use plancheck::Totals;
 
 /// The line of a step. Fields that it does not have are 0.
 #[derive(Clone)]
@@ -27,6 +29,11 @@ impl PlanLine {
         }
     }
 
+    pub fn has_volumes(&self) -> bool {
+        let volumes = [&self.admitted, &self.let_out, &self.moved];
+        volumes.into_iter().flatten().any(|&volume| volume > 0)
+    }
+
     pub fn text(&self) -> String {
         let mut text = String::new();
         let numbers = [&self.masks[..], &self.admitted, &self.let_out, &self.moved].concat();
@@ -44,4 +51,13 @@ pub fn plan_lines(network: &Network, plan: &[u8]) -> Vec<PlanLine> {
     }
     let of_line = |line: &[u8]| PlanLine::new(network, &record(line).numbers);
     lines(plan).into_iter().take(steps).map(of_line).collect()
+}
+
+/// What is said of a plan without volumes, whose totals tell nothing of its phases.
+pub const NO_VOLUMES: &str = "no volumes: nobody moves; `flows` fills them in";
+
+/// Whether nobody moves in an accepted plan: it has phases alone.
+pub fn has_no_volumes(texts: &Texts, totals: &Totals) -> bool {
+    let moves = |network: Network| plan_lines(&network, &texts.plan).iter().any(PlanLine::has_volumes);
+    totals.admitted == 0 && totals.let_out == 0 && !Network::read(&texts.network).is_ok_and(moves)
 }

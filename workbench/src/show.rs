@@ -52,6 +52,12 @@ pub fn write_totals(out: &mut dyn Write, totals: &Totals) -> io::Result<()> {
     writeln!(out, "travel time        {time} vehicle seconds")
 }
 
+/// That a plan is accepted, and the time that it takes: doubled as solvers have it, and as people read it.
+pub fn accepted(totals: &Totals) -> String {
+    let (doubled, time) = (totals.doubled_time, vehicle_seconds(totals.doubled_time));
+    format!("accepted, doubled travel time {doubled}: {time} vehicle seconds")
+}
+
 fn decimal(number: u64, places: u32) -> String {
     let digits = digits(number, places);
     digits.trim_end_matches('0').trim_end_matches('.').to_string()

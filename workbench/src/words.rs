@@ -5,7 +5,8 @@ use crate::faults::{self, Fault};
 use crate::files::Texts;
 use crate::judge::Run;
 use crate::network::Network;
-use crate::pointed::quoted;
+use crate::pointed::{pointed, quoted};
+use crate::why::why;
 use crate::{form, show};
 use plancheck::{ItemKind, Reason, Refusal, Text};
 use std::fmt::Write;
@@ -141,6 +142,27 @@ pub fn told(
     }
     for words_of in why {
         let _ = write!(words, "\nwhy: {words_of}");
+    }
+    if let Some(row) = row(refusal.number) {
+        let _ = write!(words, "\nwhat to do: {}", row.action());
+    }
+    words
+}
+
+/// The sentence of a refused network or plan and, below it, the lines that it points at, what stood before the step, why, and
+/// what to do.
+pub fn explained(refusal: &Refusal, texts: &Texts, run: Option<&Run>) -> String {
+    let network = run.map(|run| &run.network);
+    let mut words = sentence(refusal, network);
+    for line in pointed(refusal, texts, run) {
+        let _ = write!(words, "\n  {}", line.words());
+    }
+    if let Some(before) = run.and_then(|run| before_the_step(refusal, run)) {
+        let _ = write!(words, "\n  {before}");
+    }
+    let of_step = run.and_then(|run| why(refusal, texts, run)).map(|why| why.words);
+    for reason in faults(refusal, texts, network).into_iter().chain(of_step) {
+        let _ = write!(words, "\nwhy: {reason}");
     }
     if let Some(row) = row(refusal.number) {
         let _ = write!(words, "\nwhat to do: {}", row.action());

@@ -5,6 +5,7 @@ use crate::command::{part, Command, Ended, Outcome};
 use crate::files::{read_given, PLAN_OPTION};
 use crate::judge::judge;
 use crate::network::Network;
+use crate::plan::{has_no_volumes, NO_VOLUMES};
 use crate::{show, words};
 use std::io::Write;
 
@@ -20,6 +21,9 @@ fn run(arguments: &[String], out: &mut dyn Write) -> Outcome {
     let given = read_given(&COMMAND, &parted.others, parted.value(PLAN_OPTION))?;
     let answer = judge(&given.texts).answer;
     let ended = if answer.is_ok() { Ended::Done } else { Ended::Refused };
+    if answer.is_ok_and(|totals| has_no_volumes(&given.texts, &totals)) {
+        eprintln!("workbench: {NO_VOLUMES}");
+    }
     if parted.has("--json") {
         let (network, plan) = (given.network.display().to_string(), given.plan.display().to_string());
         let named = vec![("network", network.into()), ("plan", plan.into())];

@@ -4,6 +4,7 @@ use crate::command::{part, Command, Ended, Outcome, Parted};
 use crate::files::{name_of, read, read_network, write, Texts};
 use crate::judge::Run;
 use crate::network::Network;
+use crate::plan::NO_VOLUMES;
 use crate::report::{comparison_page, crossings_of};
 use crate::{show, words};
 use plancheck::{compare_plans, Order, Refused, Text, MAX_LEDGER_LEN};
@@ -34,6 +35,11 @@ fn run(arguments: &[String], out: &mut dyn Write) -> Outcome {
                 gap_in_words(comparison.gap),
             ];
             let runs = both(&network, [first, second]);
+            for (plan, run) in ["first", "second"].into_iter().zip(runs.iter().flatten()) {
+                if run.has_no_volumes() {
+                    eprintln!("workbench: the {plan} plan has {NO_VOLUMES}");
+                }
+            }
             if let Some([one, other]) = &runs {
                 said.splice(1..1, crossings_in_words(&crossings_of([one, other])));
             }

@@ -1,14 +1,11 @@
 //! `explain`: a refusal with its place, the lines that it points at, and what to do.
 
 use crate::command::{part, Command, Ended, Outcome, Problem};
-use crate::files::{read_given, Texts, PLAN_OPTION};
+use crate::files::{read_given, PLAN_OPTION};
 use crate::judge::Run;
-use crate::network::Network;
-use crate::pointed::pointed;
-use crate::why::why;
 use crate::words;
-use plancheck::{Reason, Refusal};
-use std::io::{self, Write};
+use plancheck::Reason;
+use std::io::Write;
 use std::path::Path;
 
 pub const COMMAND: Command = Command {
@@ -37,7 +34,7 @@ fn run(arguments: &[String], out: &mut dyn Write) -> Outcome {
         },
         Err(refusal) => (refusal, None),
     };
-    explain(out, &refusal, &texts, run.as_ref())?;
+    writeln!(out, "{}", words::explained(&refusal, &texts, run.as_ref()))?;
     Ok(Ended::Refused)
 }
 
@@ -57,23 +54,4 @@ fn explain_number(number: u32, out: &mut dyn Write) -> Outcome {
     writeln!(out, "meaning: {}", row.meaning.replace('`', ""))?;
     writeln!(out, "what to do: {}", row.action())?;
     Ok(Ended::Done)
-}
-
-fn explain(out: &mut dyn Write, refusal: &Refusal, texts: &Texts, run: Option<&Run>) -> io::Result<()> {
-    let network: Option<&Network> = run.map(|run| &run.network);
-    writeln!(out, "{}", words::sentence(refusal, network))?;
-    for line in pointed(refusal, texts, run) {
-        writeln!(out, "  {}", line.words())?;
-    }
-    if let Some(words) = run.and_then(|run| words::before_the_step(refusal, run)) {
-        writeln!(out, "  {words}")?;
-    }
-    let of_step = run.and_then(|run| why(refusal, texts, run)).map(|why| why.words);
-    for words in words::faults(refusal, texts, network).into_iter().chain(of_step) {
-        writeln!(out, "why: {words}")?;
-    }
-    if let Some(row) = words::row(refusal.number) {
-        writeln!(out, "what to do: {}", row.action())?;
-    }
-    Ok(())
 }

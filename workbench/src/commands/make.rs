@@ -3,10 +3,10 @@
 use crate::command::{part, Command, Ended, Outcome, Parted, Problem};
 use crate::files::{make_folder, read, write, Texts, NETWORK, PLAN};
 use crate::judge::judge;
-use crate::make::{plan_text, Avenue, Chance, MAX_JUNCTIONS};
+use crate::make::{avenue, plan, Chance, MAX_JUNCTIONS};
 use crate::show::counted;
 use crate::{show, words};
-use plancheck::MAX_STEPS;
+use plancheck::{NetworkText, PlanText, MAX_STEPS};
 use std::io::Write;
 use std::path::Path;
 
@@ -37,16 +37,17 @@ fn run(arguments: &[String], out: &mut dyn Write) -> Outcome {
     };
     let mut chance = Chance::new(seed.parse().map_err(|_| COMMAND.wrong())?);
     let sizes = sizes(&mut chance, &options)?;
-    let (avenue, mut plan) = avenue_with_plan(&mut chance, &sizes)?;
+    let (network, mut made) = avenue_with_plan(&mut chance, &sizes)?;
     let folder = Path::new(folder);
     make_folder(folder)?;
-    write_network(&folder.join(NETWORK), avenue.text().as_bytes())?;
+    let network_text = network.to_string();
+    write_network(&folder.join(NETWORK), network_text.as_bytes())?;
     let counts = [
-        counted(avenue.links.len(), "link"),
-        counted(avenue.signals.len(), "signal"),
-        counted(avenue.movements.len(), "movement"),
-        counted(avenue.steps.len(), "step"),
-        counted(avenue.trams.len(), "tram line"),
+        counted(network.links.len(), "link"),
+        counted(network.signals.len(), "signal"),
+        counted(network.movements.len(), "movement"),
+        counted(network.steps.len(), "step"),
+        counted(network.trams.len(), "tram line"),
     ];
     writeln!(out, "{}", counts.join(", "))?;
     let mut name = PLAN.to_string();
@@ -54,14 +55,18 @@ fn run(arguments: &[String], out: &mut dyn Write) -> Outcome {
     for number in 1..=sizes.plans {
         if number > 1 {
             name = format!("plan-{number}.tsv");
-            plan = plan_text(&mut chance, &avenue).ok_or_else(no_plan)?;
+            made = plan(&mut chance, &network).ok_or_else(no_plan)?;
         }
-        let time = accepted_time(&avenue, &plan)?;
-        write(&folder.join(&name), plan.as_bytes())?;
-        longest_plan = longest_plan.max(plan.len());
+        let texts = Texts {
+            network: network_text.clone().into_bytes(),
+            plan: made.to_string().into_bytes(),
+        };
+        let time = accepted_time(&texts)?;
+        write(&folder.join(&name), &texts.plan)?;
+        longest_plan = longest_plan.max(texts.plan.len());
         writeln!(out, "{name}: travel time {time} vehicle seconds")?;
     }
-    if avenue.text().len() > MAX_CHECK_NETWORK || longest_plan > MAX_CHECK_PLAN {
+    if network_text.len() > MAX_CHECK_NETWORK || longest_plan > MAX_CHECK_PLAN {
         eprintln!(
             "workbench: ./check takes networks of at most {MAX_CHECK_NETWORK} bytes and plans of at most {MAX_CHECK_PLAN}, \
              and not all of these; workbench/run check does"
@@ -101,11 +106,11 @@ fn sizes(chance: &mut Chance, options: &[(&str, &str)]) -> Result<Sizes, Problem
 }
 
 /// An avenue whose signals can all keep their limits, with a plan.
-fn avenue_with_plan(chance: &mut Chance, sizes: &Sizes) -> Result<(Avenue, String), Problem> {
+fn avenue_with_plan(chance: &mut Chance, sizes: &Sizes) -> Result<(NetworkText, PlanText), Problem> {
     for _ in 0..TRIES {
-        let avenue = Avenue::new(chance, sizes.junctions, sizes.steps);
-        if let Some(plan) = plan_text(chance, &avenue) {
-            return Ok((avenue, plan));
+        let network = avenue(chance, sizes.junctions, sizes.steps);
+        if let Some(plan) = plan(chance, &network) {
+            return Ok((network, plan));
         }
     }
     Err(no_plan())
@@ -116,12 +121,8 @@ fn no_plan() -> Problem {
 }
 
 /// The travel time of a made plan; that the check refuses one is a fault of this tool.
-fn accepted_time(avenue: &Avenue, plan: &str) -> Result<String, Problem> {
-    let texts = Texts {
-        network: avenue.text().into_bytes(),
-        plan: plan.as_bytes().to_vec(),
-    };
-    match judge(&texts).answer {
+fn accepted_time(texts: &Texts) -> Result<String, Problem> {
+    match judge(texts).answer {
         Ok(totals) => Ok(show::vehicle_seconds(totals.doubled_time)),
         Err(refusal) => Err(Problem(format!("the plan made is {}", words::sentence(&refusal, None)))),
     }

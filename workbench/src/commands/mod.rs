@@ -6,6 +6,7 @@ mod cells;
 mod check;
 mod compare;
 mod explain;
+mod flows;
 mod listing;
 mod make;
 mod model;
@@ -36,6 +37,7 @@ pub const ALL: &[Command] = &[
     model::COMMAND,
     solution::COMMAND,
     sheet::COMMAND,
+    flows::COMMAND,
     cells::COMMAND,
     traces::COMMAND,
     make::COMMAND,

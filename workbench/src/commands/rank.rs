@@ -3,6 +3,7 @@
 use crate::command::{part, Command, Ended, Outcome, Parted, Problem};
 use crate::files::{network_at, plans_in, read, Found, Texts, NETWORK};
 use crate::judge::judge;
+use crate::plan::{has_no_volumes, NO_VOLUMES};
 use crate::{show, words};
 use plancheck::{check_network, Refusal, Totals};
 use std::io::{self, Write};
@@ -19,6 +20,8 @@ pub const COMMAND: Command = Command {
 struct Ranked {
     plan: PathBuf,
     answer: Result<Totals, Refusal>,
+    /// Whether it is accepted and nobody moves in it.
+    has_no_volumes: bool,
 }
 
 fn run(arguments: &[String], out: &mut dyn Write) -> Outcome {
@@ -44,6 +47,10 @@ fn run(arguments: &[String], out: &mut dyn Write) -> Outcome {
         write_table(out, &ranked)?;
     } else {
         write_csv(out, &ranked)?;
+    }
+    let without = ranked.iter().filter(|plan| plan.has_no_volumes).count();
+    if without > 0 {
+        eprintln!("workbench: {without} of {} plans have {NO_VOLUMES}", ranked.len());
     }
     let refused = ranked.iter().filter(|plan| plan.answer.is_err()).count();
     if refused > 0 {
@@ -100,9 +107,11 @@ fn judge_all(network: Vec<u8>, plans: Vec<PathBuf>) -> Result<Vec<Ranked>, Probl
     let mut told = Instant::now();
     for plan in plans {
         texts.plan = read(&plan)?;
+        let answer = judge(&texts).answer;
         ranked.push(Ranked {
             plan,
-            answer: judge(&texts).answer,
+            answer,
+            has_no_volumes: answer.is_ok_and(|totals| has_no_volumes(&texts, &totals)),
         });
         if told.elapsed() > Duration::from_secs(1) {
             eprintln!("workbench: {} of {count} plans judged", ranked.len());
@@ -120,11 +129,12 @@ fn write_table(out: &mut dyn Write, ranked: &[Ranked]) -> io::Result<()> {
         match &plan.answer {
             Ok(totals) => writeln!(
                 out,
-                "{:>4}  {:>15} {:>9} {:>11}  {name}",
+                "{:>4}  {:>15} {:>9} {:>11}  {name}{}",
                 place + 1,
                 show::vehicle_seconds_in_column(totals.doubled_time),
                 show::vehicles_in_column(totals.let_out),
                 show::vehicles_in_column(totals.inside),
+                if plan.has_no_volumes { " (no volumes)" } else { "" },
             )?,
             Err(refusal) => {
                 writeln!(out, "   -  {:<39}{name}", in_short(refusal))?;

@@ -5,6 +5,7 @@ use crate::faults::{of_sheet, off_boundaries, Fault, Faults};
 use crate::files::{read, read_network, Texts};
 use crate::judge::carried;
 use crate::network::Network;
+use crate::plan::{has_no_volumes, NO_VOLUMES};
 use crate::records::{lines, record};
 use crate::{form, show, words};
 use plancheck::{check_sheet, plan_from_sheet, Reason, Refusal, Text, MAX_LEDGER_LEN, MAX_WRITTEN_PLAN_LEN};
@@ -34,19 +35,37 @@ fn run(arguments: &[String], out: &mut dyn Write) -> Outcome {
 }
 
 fn write_plan(network: &[u8], sheet: &[u8], out: &mut dyn Write) -> Outcome {
+    match plan_of(network, sheet) {
+        Ok(plan) => {
+            out.write_all(&plan)?;
+            eprintln!("workbench: {NO_VOLUMES}");
+            Ok(Ended::Done)
+        }
+        Err(words) => {
+            eprintln!("workbench: {words}");
+            Ok(Ended::Refused)
+        }
+    }
+}
+
+/// The plan text of a sheet with offsets, without volumes; or why there is none, in words.
+pub fn plan_of(network: &[u8], sheet: &[u8]) -> Result<Vec<u8>, String> {
     let mut plan = vec![0; MAX_WRITTEN_PLAN_LEN];
     match plan_from_sheet(network, sheet, &mut plan) {
         Ok(length) => {
-            out.write_all(&plan[..length])?;
-            Ok(Ended::Done)
+            plan.truncate(length);
+            Ok(plan)
         }
         Err(refusal) => {
             let given = [(Text::Network, network), (Text::Sheet, sheet)];
             let network = Network::read(network).ok();
             let faults = network.as_ref().map(|network| faults(&refusal, network, sheet, true));
-            let words = words::told(&refusal, &given, network.as_ref(), &faults.unwrap_or_default());
-            eprintln!("workbench: {words}");
-            Ok(Ended::Refused)
+            Err(words::told(
+                &refusal,
+                &given,
+                network.as_ref(),
+                &faults.unwrap_or_default(),
+            ))
         }
     }
 }
@@ -57,6 +76,9 @@ fn hold_to(texts: &Texts, sheet: &[u8], out: &mut dyn Write) -> Outcome {
         Ok(totals) => {
             writeln!(out, "accepted, and keeps the sheet")?;
             show::write_totals(out, &totals)?;
+            if has_no_volumes(texts, &totals) {
+                eprintln!("workbench: {NO_VOLUMES}");
+            }
             Ok(Ended::Done)
         }
         Err(refusal) => {

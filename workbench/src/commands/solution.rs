@@ -95,8 +95,7 @@ fn judged(network: Vec<u8>, plan: &PlanText) -> Ended {
     };
     match judge(&texts).answer {
         Ok(totals) => {
-            let (doubled, time) = (totals.doubled_time, show::vehicle_seconds(totals.doubled_time));
-            eprintln!("workbench: accepted, doubled travel time {doubled}: {time} vehicle seconds");
+            eprintln!("workbench: {}", show::accepted(&totals));
             Ended::Done
         }
         Err(refusal) => {

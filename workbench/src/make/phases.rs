@@ -1,7 +1,7 @@
 //! The phase that a signal shows in each step: greens of a length drawn anew each time, within all its limits.
 
-use super::avenue::{Signal, Step, Tram};
 use super::chance::Chance;
+use plancheck::{Phase, Signal, Step, Tram};
 use std::collections::HashSet;
 
 /// Where a signal is after some steps: its phase, the seconds of its run, and its cycle clock.
@@ -35,17 +35,18 @@ pub fn phases(chance: &mut Chance, signal: &Signal, steps: &[Step], trams: &[&Tr
         phases: Vec::new(),
     };
     let start = State {
-        phase: signal.shown,
+        phase: signal.shown as usize - 1,
         run: signal.shown_for,
         clock: signal.cycle_clock,
     };
-    let green = search.green(chance, signal.shown);
+    let green = search.green(chance, start.phase);
     search.go_on(chance, start, green).then_some(search.phases)
 }
 
 impl Search<'_> {
     fn green(&self, chance: &mut Chance, phase: usize) -> u32 {
-        chance.between(self.signal.least[phase], self.signal.greatest[phase])
+        let Phase { least, greatest } = self.signal.phases[phase];
+        chance.between(least, greatest)
     }
 
     /// Goes on from the phases so far to the last step; false where that ends in a dead end.
@@ -103,10 +104,10 @@ impl Search<'_> {
 
     fn change(&self, shown: State) -> Option<State> {
         let length = self.steps[self.phases.len()].length;
-        let phase = (shown.phase + 1) % self.signal.least.len();
+        let phase = (shown.phase + 1) % self.signal.phases.len();
         let begins_cycle = phase == 0;
-        let too_early =
-            shown.run < self.signal.least[shown.phase] || (begins_cycle && shown.clock < self.signal.least_cycle);
+        let too_early = shown.run < self.signal.phases[shown.phase].least
+            || (begins_cycle && shown.clock < self.signal.least_cycle);
         let next = State {
             phase,
             run: length,
@@ -120,7 +121,7 @@ impl Search<'_> {
     }
 
     fn keeps(&self, next: State) -> Option<State> {
-        let in_time = next.run <= self.signal.greatest[next.phase] && next.clock <= self.signal.greatest_cycle;
+        let in_time = next.run <= self.signal.phases[next.phase].greatest && next.clock <= self.signal.greatest_cycle;
         in_time.then_some(next)
     }
 }

@@ -129,7 +129,8 @@ pub fn grains_a_thousandth(length: u32) -> u32 {
     gcd(length, 1000)
 }
 
-fn gcd(first: u32, second: u32) -> u32 {
+/// The greatest common divisor; that of 0 and a number is the number.
+pub fn gcd(first: u32, second: u32) -> u32 {
     if second == 0 {
         first
     } else {

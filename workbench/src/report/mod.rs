@@ -19,6 +19,7 @@ pub use traces::page as traces_page;
 use crate::files::Texts;
 use crate::judge::Run;
 use crate::names::Names;
+use crate::plan::NO_VOLUMES;
 use crate::show::counted;
 use crate::wave::Path as Links;
 use crate::why::{why, Why};
@@ -37,6 +38,7 @@ pub fn page(name: &str, texts: &Texts, network: &Path) -> String {
     let names = Names::beside(network, run.map(|run| &run.network));
     let why = refusal.zip(run).and_then(|(refusal, run)| why(&refusal, texts, run));
     let mut body = verdict(refusal.as_ref());
+    body += &run.map_or(String::new(), note);
     if let Some(refusal) = &refusal {
         body += &refusal::section(refusal, texts, run, why.as_ref());
     }
@@ -53,8 +55,9 @@ pub fn wave_page(name: &str, texts: &Texts, run: &Run, names: &Names, mut paths:
         paths = wave::usual_paths(run);
     }
     let body = format!(
-        "{}<p>{}</p>\n{}<p class=\"key\">{WAVE}</p>\n{}",
+        "{}{}<p>{}</p>\n{}<p class=\"key\">{WAVE}</p>\n{}",
         verdict(run.answer.err().as_ref()),
+        note(run),
         extent(run),
         svg::PATTERNS,
         wave::diagrams(&texts.network, run, names, &paths)
@@ -68,6 +71,15 @@ fn verdict(refusal: Option<&Refusal>) -> String {
             format!("<p class=\"verdict refused\">refused: R {number} {line} {item}</p>\n")
         }
         None => "<p class=\"verdict accepted\">accepted</p>\n".to_string(),
+    }
+}
+
+/// What the verdict on a plan does not tell: that nobody moves in it.
+fn note(run: &Run) -> String {
+    if run.has_no_volumes() {
+        format!("<p>{}.</p>\n", capital(&NO_VOLUMES.replace('`', "")))
+    } else {
+        String::new()
     }
 }
 

@@ -4,6 +4,7 @@ mod batch;
 mod colours;
 mod commands;
 mod faults;
+mod flows;
 mod made;
 mod pictures;
 mod reports;

@@ -5,7 +5,8 @@ mod networks;
 mod program;
 
 use super::{example, scratch, workbench};
-use networks::{Chance, Made};
+pub use networks::Chance;
+use networks::Made;
 use plancheck::{check_plan, phase_mask, PlanText, MAX_LEDGER_LEN};
 use program::Program;
 use std::fs;
