@@ -35,10 +35,8 @@ pub fn run(rt: &(impl Files + Print), network_path: &str, plan_path: &str) {
     let mut network = [0; MAX_NETWORK_SIZE + 1];
     let mut plan = [0; MAX_PLAN_SIZE + 1];
     let mut out = [0; OUTPUT_SIZE];
-    let network_text = plancheck_io::read_file(rt, network_path, &mut network).map(
-        |n| &network[..n],
-    );
-    let plan_text = plancheck_io::read_file(rt, plan_path, &mut plan).map(|n| &plan[..n]);
+    let network_text = plancheck_io::read_file(rt, network_path, &mut network).unwrap_or(None);
+    let plan_text = plancheck_io::read_file(rt, plan_path, &mut plan).unwrap_or(None);
     let end = write_output(network_text, plan_text, &mut out);
     let _ = rt.write_all(&out[..end]);
 }

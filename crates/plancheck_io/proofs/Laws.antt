@@ -1,7 +1,6 @@
 -- One part after another is what a file had next.
 use Rattle.base_laws.proofs.Kit.{◌∙◌, ℕ, ◌+◌, ◌≤◌, ◌≡◌, ap, sym, subst, List, ◌++◌, length, take, length-take-le}
-use Rattle.std.proofs.Common.{Option, Some, Result, Ok, Err}
-use Rattle.std.specs.Result.{result_ok}
+use Rattle.std.proofs.Common.{Option, Result, Ok, Err}
 use Rattle.std.specs.Io.{ReadsAtMost}
 use Rattle.std.specs.Io.KnownBytes.{Consumes, ReadConsumes}
 use Rattle.std.proofs.KnownBytes.{Consumes-trans}
@@ -15,7 +14,7 @@ took-more old part done k n h m =
 
 -- what a read into the rest of a buffer gave, behind what came before
 pub came-more :
-    {E : Type 0} (a b c : Option (List ℕ)) (old part : List ℕ) (done k : ℕ) (read : Result ℕ E) {n : ℕ} → done ≤ length old → result_ok read ≡ Some n
+    {E : Type 0} (a b c : Option (List ℕ)) (old part : List ℕ) (done k : ℕ) (read : Result ℕ E) {n : ℕ} → done ≤ length old → read ≡ Ok n
     → ReadsAtMost read part → Consumes a b (take done old) → ReadConsumes b c read part → Consumes a c (take (done + n) (put_mid done k old part))
 came-more a b c old part done k (Err e) h r fits before more = cc
 came-more a b c old part done k (Ok m) {n} h r fits before more =

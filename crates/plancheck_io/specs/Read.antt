@@ -1,10 +1,10 @@
--- What is promised of a file that was read: how many bytes, or nothing where it was not read.
-use Rattle.std.specs.Prelude.{ℕ, ◌<◌, ◌≡◌, List, Option, take, IfSome}
+-- What is promised of a file that was read, where what there was to read is known.
+use Rattle.std.specs.Prelude.{ℕ, ◌≤◌, ◌≡◌, List, length, Option, IfSome}
 
--- what was read leaves at least one byte of the buffer
-abbrev pub Within : ℕ → Option ℕ → Type 0
-Within size read = IfSome read (λ n. n < size)
+-- a text is all that there was to read
+abbrev pub IsWhole : Option (List ℕ) → List ℕ → Type 0
+IsWhole known text = IfSome known (λ bytes. text ≡ bytes)
 
--- what was read, at the start of the buffer, is all that there was to read, where that is known
-abbrev pub IsWhole : Option (List ℕ) → List ℕ → Option ℕ → Type 0
-IsWhole known buffer read = IfSome read (λ n. IfSome known (λ bytes. take n buffer ≡ bytes))
+-- what there was to read leaves no byte of a buffer of so many
+abbrev pub Fills : Option (List ℕ) → ℕ → Type 0
+Fills known size = IfSome known (λ bytes. size ≤ length bytes)

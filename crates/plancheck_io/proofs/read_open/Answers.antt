@@ -1,5 +1,4 @@
 use Rattle.std.proofs.Common.{rules}
-use Rattle.base_laws.proofs.Kit.{sym, ◌∙◌}
 use Rattle.plancheck_io.proofs.Laws.{came-more}
 use Rattle.plancheck_io.proofs.read_open.Goals as goal
 
@@ -9,5 +8,5 @@ loop-done-preserved g c =
     record {
       kept = search rules;
       fits = search rules;
-      came = came-more _ _ _ _ _ _ _ _ before.fits (sym c.ok.ensures.value ∙ c.in_ok-count.was) c.read.ensures.bound before.came c.read.ensures.bytes;
+      came = came-more _ _ _ _ _ _ _ _ before.fits c.in_ok-count.was c.read.ensures.bound before.came c.read.ensures.bytes;
     }
