@@ -12,11 +12,18 @@ use plancheck::{Link, NetworkText, PlanStep, PlanText};
 /// of the plan that gives the phases are passed over.
 pub fn flows(network: &NetworkText, phases: &PlanText) -> PlanText {
     let mut traffic = Traffic::new(network);
-    let held = PlanText::hold(network);
-    // A plan without steps holds the phases shown before it.
-    let phases = if phases.steps.is_empty() { &held } else { phases };
+    let phases = without_volumes(network, phases);
     let steps = phases.steps.iter().map(|step| traffic.step(&step.masks));
     PlanText { steps: steps.collect() }
+}
+
+/// The plan with these phases in which nobody moves; a plan without steps holds the phases shown before it.
+pub fn without_volumes(network: &NetworkText, phases: &PlanText) -> PlanText {
+    let mut still = PlanText::hold(network);
+    for (step, shown) in still.steps.iter_mut().zip(&phases.steps) {
+        step.masks.clone_from(&shown.masks);
+    }
+    still
 }
 
 /// The links from which vehicles move on in portions of more than a tenth of a vehicle, by their numbers: their shares have

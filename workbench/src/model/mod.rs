@@ -7,7 +7,7 @@ mod signals;
 mod volumes;
 mod write;
 
-use plancheck::NetworkText;
+use plancheck::{NetworkText, PlanText};
 use std::collections::HashSet;
 
 /// Has the value 1, so that the objective can have a constant, which not all solvers read.
@@ -88,6 +88,15 @@ impl Model {
         }
         volumes::add(&mut model, network);
         model
+    }
+
+    /// The signals show what a plan has them show. Its phases keep rules 10 to 14 and 29, or no plan keeps the rows.
+    pub fn fix_phases(&mut self, phases: &PlanText) {
+        for (step, shown) in phases.steps.iter().enumerate() {
+            for (signal, mask) in shown.masks.iter().enumerate() {
+                signals::fix(self, signal + 1, step + 1, *mask);
+            }
+        }
     }
 
     fn at_most(&mut self, name: String, sum: Sum, limit: i64) {

@@ -54,6 +54,17 @@ pub fn add(model: &mut Model, network: &NetworkText, index: usize) {
     ordinary.add_greatest_cycle(model);
 }
 
+/// A signal shows the phases of a mask in a step: signal and step are counted from 1.
+pub fn fix(model: &mut Model, signal: usize, step: usize, mask: u32) {
+    for phase in (1..=32).filter(|phase| mask >> (phase - 1) & 1 == 1) {
+        model.equal(
+            format!("given_{signal}_{step}_{phase}"),
+            Sum::of(name(signal, phase, step)),
+            1,
+        );
+    }
+}
+
 fn name(signal: usize, phase: usize, step: usize) -> String {
     format!("p_{signal}_{phase}_{step}")
 }

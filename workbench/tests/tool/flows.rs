@@ -1,6 +1,7 @@
 //! The volumes that phases let pass: whatever the network, the check accepts them where it accepts the phases, and none of them
 //! could be larger.
 
+mod best;
 mod networks;
 
 use super::{corridor_with, example, scratch, workbench};
@@ -37,7 +38,7 @@ fn what_the_phases_let_pass_is_accepted() {
     let folder = scratch("flows_accepted");
     let (mut accepted, mut refused, mut moved) = (0, 0, 0);
     for seed in 0..DRAWN {
-        let network = network(seed);
+        let network = network(seed, &[1, 5, 7, 10, 12]);
         let text = network.to_string();
         let phases = phases(&mut Chance(seed), &network);
         match (check(&text, &phases), filled(&folder, &network, &phases)) {

@@ -5,8 +5,7 @@ mod networks;
 mod program;
 
 use super::{example, scratch, workbench};
-pub use networks::Chance;
-use networks::Made;
+pub use networks::{Chance, Made};
 use plancheck::{check_plan, phase_mask, PlanText, MAX_LEDGER_LEN};
 use program::Program;
 use std::fs;
@@ -105,7 +104,7 @@ fn whole(written: &str) -> u64 {
     whole
 }
 
-fn is_there(solver: &str) -> bool {
+pub fn is_there(solver: &str) -> bool {
     Command::new(solver).arg("-v").output().is_ok()
 }
 

@@ -7,11 +7,11 @@ use plancheck::{
 };
 use std::collections::BTreeSet;
 
-/// The first valid network that is drawn of a seed.
-pub fn network(seed: u64) -> NetworkText {
+/// The first valid network that is drawn of a seed, with steps of these lengths.
+pub fn network(seed: u64, lengths: &[u32]) -> NetworkText {
     let mut chance = Chance(seed.wrapping_mul(0x9e37_79b9));
     loop {
-        let network = draw(&mut chance);
+        let network = draw(&mut chance, lengths);
         if check_network(network.to_string().as_bytes()).is_ok() {
             return network;
         }
@@ -23,7 +23,7 @@ fn one_of(chance: &mut Chance, numbers: &[u32]) -> u32 {
     numbers[chance.between(0, u32::try_from(numbers.len()).unwrap() - 1) as usize]
 }
 
-fn draw(chance: &mut Chance) -> NetworkText {
+fn draw(chance: &mut Chance, lengths: &[u32]) -> NetworkText {
     let most_links = one_of(chance, &[3, 6, 24]);
     let (links, signals) = (chance.between(1, most_links), chance.between(0, 3));
     let (steps, past) = (chance.between(1, 14), one_of(chance, &[0, 0, 1, 4]));
@@ -35,7 +35,7 @@ fn draw(chance: &mut Chance) -> NetworkText {
     NetworkText {
         trams: trams(chance, &signals, steps),
         past: (0..past).map(|_| past_step(chance, &links)).collect(),
-        steps: (0..steps).map(|_| step(chance, links.len())).collect(),
+        steps: (0..steps).map(|_| step(chance, lengths, links.len())).collect(),
         signals,
         links,
         movements,
@@ -121,8 +121,8 @@ fn past_step(chance: &mut Chance, links: &[Link]) -> PastStep {
     }
 }
 
-fn step(chance: &mut Chance, links: usize) -> Step {
-    let length = one_of(chance, &[1, 5, 7, 10, 12]);
+fn step(chance: &mut Chance, lengths: &[u32], links: usize) -> Step {
+    let length = one_of(chance, lengths);
     let demands = (0..links).map(|_| one_of(chance, &[0, 0, 777, 3000, 600_000]));
     Step {
         length,

@@ -29,11 +29,16 @@ pub struct Made {
 }
 
 impl Made {
-    /// The first valid network that is drawn of a seed.
+    /// The first valid network that is drawn of a seed, with steps some of which have grains of more than a thousandth.
     pub fn new(seed: u64) -> Made {
+        Made::with_steps(seed, [5, 6, 7, 10, 12, 15])
+    }
+
+    /// The same with steps of these lengths.
+    pub fn with_steps(seed: u64, lengths: [u32; 6]) -> Made {
         let mut chance = Chance(seed.wrapping_mul(1_000_003));
         loop {
-            let network = draw(&mut chance);
+            let network = draw(&mut chance, lengths);
             if check_network(network.to_string().as_bytes()).is_ok() {
                 return Made { seed, network };
             }
@@ -79,7 +84,7 @@ impl Made {
 
 /// Two to four links: an entry behind a signal, an exit, perhaps a second entry that another phase opens, perhaps a second
 /// exit with a share of the first entry.
-fn draw(chance: &mut Chance) -> NetworkText {
+fn draw(chance: &mut Chance, lengths: [u32; 6]) -> NetworkText {
     let (side, fork) = (chance.is_one_of(2), chance.is_one_of(2));
     let signal = signal(chance);
     let phases = u32::try_from(signal.phases.len()).unwrap();
@@ -95,7 +100,9 @@ fn draw(chance: &mut Chance) -> NetworkText {
         links.push(entry(chance, phase_mask(2) | phase_mask(phases)));
         movements.push(movement(chance, u32::try_from(links.len()).unwrap(), 2));
     }
-    let steps: Vec<Step> = (0..chance.between(4, 8)).map(|_| step(chance, &links)).collect();
+    let steps: Vec<Step> = (0..chance.between(4, 8))
+        .map(|_| step(chance, &links, lengths))
+        .collect();
     let past = if chance.is_one_of(2) { chance.between(1, 3) } else { 0 };
     let past = (0..past).map(|_| past_step(chance, &links)).collect();
     let last = u32::try_from(steps.len()).unwrap();
@@ -170,8 +177,7 @@ fn movement(chance: &mut Chance, from: u32, to: u32) -> Movement {
 }
 
 /// Volumes of five links' demand: those behind a signal are entries.
-fn step(chance: &mut Chance, links: &[Link]) -> Step {
-    let lengths = [5, 6, 7, 10, 12, 15];
+fn step(chance: &mut Chance, links: &[Link], lengths: [u32; 6]) -> Step {
     let length = lengths[chance.between(0, 5) as usize];
     let demand = |link: &Link| if link.signal == 0 { 0 } else { chance.between(0, 5000) };
     let demands = links.iter().map(demand).collect();
