@@ -7,10 +7,10 @@
     .thumb
 
 /* r1:r0 times r3:r2, in r1:r0 */
-    .section .text.box_product, "ax", %progbits
-    .global box_product
-    .type box_product, %function
-box_product:
+    .section .text.plancheck_box_product, "ax", %progbits
+    .global plancheck_box_product
+    .type plancheck_box_product, %function
+plancheck_box_product:
     cmp r1, #0
     bne long_product
     cmp r3, #0
@@ -45,13 +45,13 @@ long_product:
     push {r4, lr}
     bl __aeabi_lmul
     pop {r4, pc}
-    .size box_product, . - box_product
+    .size plancheck_box_product, . - plancheck_box_product
 
 /* r1:r0 by r3:r2, the quotient in r1:r0 and the rest in r3:r2 */
-    .section .text.box_quotient, "ax", %progbits
-    .global box_quotient
-    .type box_quotient, %function
-box_quotient:
+    .section .text.plancheck_box_quotient, "ax", %progbits
+    .global plancheck_box_quotient
+    .type plancheck_box_quotient, %function
+plancheck_box_quotient:
     push {r4, lr}
     cmp r1, #0
     bne long_quotient
@@ -66,4 +66,4 @@ box_quotient:
 long_quotient:
     bl __aeabi_uldivmod
     pop {r4, pc}
-    .size box_quotient, . - box_quotient
+    .size plancheck_box_quotient, . - plancheck_box_quotient

@@ -6,9 +6,9 @@
 
 enum { LENGTHS = 65, PAIRS = LENGTHS * LENGTHS * 20 };
 
-uint64_t box_product(uint64_t, uint64_t);
+uint64_t plancheck_box_product(uint64_t, uint64_t);
 
-/* box_quotient gives two numbers in four registers, which no C function does. */
+/* plancheck_box_quotient gives two numbers in four registers, which no C function does. */
 struct division {
     uint64_t quotient, rest;
 };
@@ -19,7 +19,7 @@ static struct division divided(uint64_t dividend, uint64_t divisor)
     register uint32_t r1 __asm__("r1") = (uint32_t)(dividend >> 32);
     register uint32_t r2 __asm__("r2") = (uint32_t)divisor;
     register uint32_t r3 __asm__("r3") = (uint32_t)(divisor >> 32);
-    __asm__ volatile("bl box_quotient" : "+r"(r0), "+r"(r1), "+r"(r2), "+r"(r3) : : "ip", "lr", "cc");
+    __asm__ volatile("bl plancheck_box_quotient" : "+r"(r0), "+r"(r1), "+r"(r2), "+r"(r3) : : "ip", "lr", "cc");
     return (struct division){(uint64_t)r1 << 32 | r0, (uint64_t)r3 << 32 | r2};
 }
 
@@ -46,7 +46,7 @@ int main(void)
         struct division division = {0, 0};
         if (other != 0)
             division = divided(one, other);
-        if (box_product(one, other) != one * other || (other != 0 && (division.quotient != one / other || division.rest != one % other))) {
+        if (plancheck_box_product(one, other) != one * other || (other != 0 && (division.quotient != one / other || division.rest != one % other))) {
             print("the product or the quotient of two numbers is another\n");
             return 1;
         }

@@ -15,34 +15,38 @@ static const void *at(const void *start)
     return start == NULL ? (const void *)4096 : start;
 }
 
-void box_version(plancheck_version_result *);
-void box_check_network(plancheck_network_result *, const void *network, uint64_t network_len);
-void box_network_counts(plancheck_counts_result *, const void *network, uint64_t network_len);
-void box_check_plan(plancheck_plan_result *, const void *network, uint64_t network_len, const void *plan, uint64_t plan_len, const void *ledger, uint64_t ledger_len);
-void box_check_sheet(plancheck_plan_result *, const void *network, uint64_t network_len, const void *plan, uint64_t plan_len, const void *sheet, uint64_t sheet_len,
-                     const void *ledger, uint64_t ledger_len);
-void box_link_state(plancheck_link_result *, const void *network, uint64_t network_len, const void *ledger, uint64_t ledger_len, uint32_t boundary, uint32_t link);
-void box_carry_on(struct written *, const void *network, uint64_t network_len, uint32_t boundary, const void *plan, uint64_t plan_len, const void *ledger,
-                  uint64_t ledger_len, const void *carried, uint64_t carried_len);
+void plancheck_box_version(plancheck_version_result *);
+void plancheck_box_check_network(plancheck_network_result *, const void *network, uint64_t network_len);
+void plancheck_box_network_counts(plancheck_counts_result *, const void *network, uint64_t network_len);
+void plancheck_box_check_plan(plancheck_plan_result *, const void *network, uint64_t network_len, const void *plan,
+                              uint64_t plan_len, const void *ledger, uint64_t ledger_len);
+void plancheck_box_check_sheet(plancheck_plan_result *, const void *network, uint64_t network_len, const void *plan,
+                               uint64_t plan_len, const void *sheet, uint64_t sheet_len, const void *ledger,
+                               uint64_t ledger_len);
+void plancheck_box_link_state(plancheck_link_result *, const void *network, uint64_t network_len, const void *ledger,
+                              uint64_t ledger_len, uint32_t boundary, uint32_t link);
+void plancheck_box_carry_on(struct written *, const void *network, uint64_t network_len, uint32_t boundary,
+                            const void *plan, uint64_t plan_len, const void *ledger, uint64_t ledger_len,
+                            const void *carried, uint64_t carried_len);
 
 plancheck_version_result plancheck_version(void)
 {
     plancheck_version_result result;
-    box_version(&result);
+    plancheck_box_version(&result);
     return result;
 }
 
 plancheck_network_result plancheck_check_network(const uint8_t *network, size_t network_len)
 {
     plancheck_network_result result;
-    box_check_network(&result, at(network), network_len);
+    plancheck_box_check_network(&result, at(network), network_len);
     return result;
 }
 
 plancheck_counts_result plancheck_network_counts(const uint8_t *network, size_t network_len)
 {
     plancheck_counts_result result;
-    box_network_counts(&result, at(network), network_len);
+    plancheck_box_network_counts(&result, at(network), network_len);
     return result;
 }
 
@@ -50,7 +54,7 @@ plancheck_plan_result plancheck_check_plan(const uint8_t *network, size_t networ
                                            size_t ledger_len)
 {
     plancheck_plan_result result;
-    box_check_plan(&result, at(network), network_len, at(plan), plan_len, at(ledger), ledger_len);
+    plancheck_box_check_plan(&result, at(network), network_len, at(plan), plan_len, at(ledger), ledger_len);
     return result;
 }
 
@@ -58,7 +62,7 @@ plancheck_plan_result plancheck_check_sheet(const uint8_t *network, size_t netwo
                                             size_t sheet_len, uint32_t *ledger, size_t ledger_len)
 {
     plancheck_plan_result result;
-    box_check_sheet(&result, at(network), network_len, at(plan), plan_len, at(sheet), sheet_len, at(ledger), ledger_len);
+    plancheck_box_check_sheet(&result, at(network), network_len, at(plan), plan_len, at(sheet), sheet_len, at(ledger), ledger_len);
     return result;
 }
 
@@ -66,7 +70,7 @@ plancheck_link_result plancheck_link_state(const uint8_t *network, size_t networ
                                            uint32_t link)
 {
     plancheck_link_result result;
-    box_link_state(&result, at(network), network_len, at(ledger), ledger_len, boundary, link);
+    plancheck_box_link_state(&result, at(network), network_len, at(ledger), ledger_len, boundary, link);
     return result;
 }
 
@@ -74,6 +78,6 @@ plancheck_text_result plancheck_carry_on(const uint8_t *network, size_t network_
                                          uint32_t *ledger, size_t ledger_len, uint8_t *carried, size_t carried_len)
 {
     struct written written;
-    box_carry_on(&written, at(network), network_len, boundary, at(plan), plan_len, at(ledger), ledger_len, at(carried), carried_len);
+    plancheck_box_carry_on(&written, at(network), network_len, boundary, at(plan), plan_len, at(ledger), ledger_len, at(carried), carried_len);
     return (plancheck_text_result){written.number, written.line, written.item, (size_t)written.length};
 }

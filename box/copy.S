@@ -6,15 +6,15 @@
     .cpu cortex-m0
     .thumb
 
-    .section .text.box_copy, "ax", %progbits
-    .global box_copy, box_copy4, box_copy8
-    .type box_copy, %function
-    .type box_copy4, %function
-    .type box_copy8, %function
+    .section .text.plancheck_box_copy, "ax", %progbits
+    .global plancheck_box_copy, plancheck_box_copy4, plancheck_box_copy8
+    .type plancheck_box_copy, %function
+    .type plancheck_box_copy4, %function
+    .type plancheck_box_copy8, %function
 /* r0: where to, r1: where from, r2: how many bytes */
-box_copy:
-box_copy4:
-box_copy8:
+plancheck_box_copy:
+plancheck_box_copy4:
+plancheck_box_copy8:
     mov r3, r0
     orrs r3, r1
     orrs r3, r2
@@ -42,4 +42,4 @@ bytes:
     strb r3, [r0, r2]
     bne 5b
 6:  bx lr
-    .size box_copy, . - box_copy
+    .size plancheck_box_copy, . - plancheck_box_copy

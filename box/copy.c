@@ -3,7 +3,7 @@
 
 enum { LENGTHS = 80, ROOM = LENGTHS + 16, BEFORE = 0xff };
 
-void box_copy(uint8_t *, const uint8_t *, size_t);
+void plancheck_box_copy(uint8_t *, const uint8_t *, size_t);
 
 static int is_copied(const uint8_t *room, size_t start, const uint8_t *from, size_t length)
 {
@@ -24,7 +24,7 @@ int main(void)
             for (size_t length = 0; length <= LENGTHS; length++) {
                 for (size_t i = 0; i < ROOM; i++)
                     room[i] = BEFORE;
-                box_copy(room + start, source + from, length);
+                plancheck_box_copy(room + start, source + from, length);
                 if (!is_copied(room, start, source + from, length)) {
                     print("a byte is copied that should not be, or is not copied\n");
                     return 1;

@@ -6,24 +6,24 @@
     .cpu cortex-m0
     .thumb
 
-    .section .text.box_fill, "ax", %progbits
-    .global box_clear, box_clear4, box_clear8
-    .global box_fill, box_fill4, box_fill8
-    .type box_clear, %function
-    .type box_clear4, %function
-    .type box_clear8, %function
-    .type box_fill, %function
-    .type box_fill4, %function
-    .type box_fill8, %function
+    .section .text.plancheck_box_fill, "ax", %progbits
+    .global plancheck_box_clear, plancheck_box_clear4, plancheck_box_clear8
+    .global plancheck_box_fill, plancheck_box_fill4, plancheck_box_fill8
+    .type plancheck_box_clear, %function
+    .type plancheck_box_clear4, %function
+    .type plancheck_box_clear8, %function
+    .type plancheck_box_fill, %function
+    .type plancheck_box_fill4, %function
+    .type plancheck_box_fill8, %function
 /* r0: where, r1: how many bytes */
-box_clear:
-box_clear4:
-box_clear8:
+plancheck_box_clear:
+plancheck_box_clear4:
+plancheck_box_clear8:
     movs r2, #0
 /* r0: where, r1: how many bytes, r2: the byte */
-box_fill:
-box_fill4:
-box_fill8:
+plancheck_box_fill:
+plancheck_box_fill4:
+plancheck_box_fill8:
     mov r3, r0
     orrs r3, r1
     lsls r3, r3, #30
@@ -56,4 +56,4 @@ bytes:
     subs r1, #1
     bne 5b
 6:  bx lr
-    .size box_fill, . - box_fill
+    .size plancheck_box_fill, . - plancheck_box_fill

@@ -3,8 +3,8 @@
 
 enum { LENGTHS = 80, ROOM = LENGTHS + 16, BEFORE = 0x5a };
 
-void box_clear(uint8_t *, size_t);
-void box_fill(uint8_t *, size_t, uint32_t);
+void plancheck_box_clear(uint8_t *, size_t);
+void plancheck_box_fill(uint8_t *, size_t, uint32_t);
 
 static int is_filled(const uint8_t *room, size_t start, size_t length, uint8_t byte)
 {
@@ -24,9 +24,9 @@ int main(void)
                 for (size_t i = 0; i < ROOM; i++)
                     room[i] = BEFORE;
                 if (byte == 0)
-                    box_clear(room + start, length);
+                    plancheck_box_clear(room + start, length);
                 else
-                    box_fill(room + start, length, 0x1a3u * byte);
+                    plancheck_box_fill(room + start, length, 0x1a3u * byte);
                 if (!is_filled(room, start, length, (uint8_t)(0x1a3u * byte))) {
                     print("a byte is filled that should not be, or is not filled\n");
                     return 1;

@@ -98,7 +98,8 @@
  * K * (R + L + M), of a listing and a sheet too, of a split also with M * M, of a corridor with cells * demands, and of a
  * step with vehicles * red lines. Of a network with a past an H line within the travel times is read once more for the
  * links that are at it in a step, at worst one number of it for each link.
- * The library needs memcpy and memset from the C library, at most.
+ * The library needs memcpy and memset from the C library, at most. Every global name that it defines begins with
+ * plancheck_.
  *
  * MEMORY
  * In bytes. The stack is that of x86-64, as painted (docs/MEASUREMENTS.md; bench/run measures it).
