@@ -39,6 +39,11 @@ void print(const char *words)
 
 __attribute__((used)) static void start(void)
 {
+#ifndef __riscv
+    /* An unaligned access and a division by 0 fault, as in safety firmware: UNALIGN_TRP and DIV_0_TRP of CCR. */
+    *(volatile uint32_t *)0xe000ed14 |= 1u << 3 | 1u << 4;
+    __asm__ volatile("dsb\n isb" ::: "memory");
+#endif
 #ifdef __ARM_FP
     /* The registers for floats are shut at the start: coprocessors 10 and 11 of CPACR. */
     *(volatile uint32_t *)0xe000ed88 |= 0xfu << 20;

@@ -11,7 +11,7 @@ from dataclasses import dataclass
 import generate
 
 FOLDER = "target/box"
-SOURCES = ["box/build", "box/targets.txt", "box/narrow", "box/calls.c", "box/arithmetic.S", "box/fill.S", "box/copy.S", "include/plancheck.h"]
+SOURCES = ["box/build", "box/targets.txt", "box/narrow", "box/inspect", "box/calls.c", "box/arithmetic.S", "box/fill.S", "box/copy.S", "include/plancheck.h"]
 STRICT = ["-std=c11", "-Wall", "-Wextra", "-Werror", "-O2", "-Iinclude", "-Ibox", "-Ibench"]
 DEBIAN = {
     "arm-none-eabi-gcc": "gcc-arm-none-eabi",

@@ -61,11 +61,21 @@ static void add_answer(int call, uint32_t number, uint32_t line, uint32_t item)
 
 /* Damage. */
 
+/* As memmove, byte by byte: a board traps the unaligned accesses that the C library's may make. */
+static void move(uint8_t *to, const uint8_t *from, size_t length)
+{
+    volatile uint8_t *bytes = to;
+    for (size_t i = 0; i < length; i++) {
+        size_t at = to < from ? i : length - 1 - i;
+        bytes[at] = from[at];
+    }
+}
+
 /* A text stands at any address, aligned or not. */
 static void load(struct text *text, uint8_t *bytes, size_t room, struct lent lent)
 {
     *text = (struct text){bytes + below(4), lent.length, room};
-    memcpy(text->bytes, lent.bytes, lent.length);
+    move(text->bytes, lent.bytes, lent.length);
 }
 
 /* Puts bytes in the place of others; nothing happens where the text would grow too long. */
@@ -74,8 +84,8 @@ static void replace(struct text *text, size_t at, size_t removed, const char *by
     size_t length = strlen(bytes);
     if (text->length - removed + length > text->room)
         return;
-    memmove(text->bytes + at + length, text->bytes + at + removed, text->length - at - removed);
-    memcpy(text->bytes + at, bytes, length);
+    move(text->bytes + at + length, text->bytes + at + removed, text->length - at - removed);
+    move(text->bytes + at, (const uint8_t *)bytes, length);
     text->length = text->length - removed + length;
 }
 

@@ -99,7 +99,7 @@
  * step with vehicles * red lines. Of a network with a past an H line within the travel times is read once more for the
  * links that are at it in a step, at worst one number of it for each link.
  * The library needs memcpy and memset from the C library, at most. Every global name that it defines begins with
- * plancheck_.
+ * plancheck_. On a box it makes no unaligned access: the processor may trap them.
  *
  * MEMORY
  * In bytes. The stack is that of x86-64, as painted (docs/MEASUREMENTS.md; bench/run measures it).
