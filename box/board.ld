@@ -4,10 +4,10 @@ MEMORY
     FLASH (rx) : ORIGIN = FLASH_AT, LENGTH = FLASH_KB * 1024
     RAM (rwx) : ORIGIN = RAM_AT, LENGTH = RAM_KB * 1024
 }
-ENTRY(start)
+ENTRY(flash_start)
 SECTIONS
 {
-    .text : { KEEP(*(.vectors)) *(.text*) *(.rodata*) *(.srodata*) . = ALIGN(8); } > FLASH
+    .text : { flash_start = .; KEEP(*(.vectors)) *(.text*) *(.rodata*) *(.srodata*) . = ALIGN(8); } > FLASH
     .ARM.exidx : { *(.ARM.exidx*) } > FLASH
     .data : { data_start = .; *(.data*) *(.sdata*) . = ALIGN(8); data_end = .; } > RAM AT > FLASH
     data_in_flash = LOADADDR(.data);

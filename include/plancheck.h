@@ -78,6 +78,9 @@
  * both counted from the first past step on.
  * A network needs PLANCHECK_LEDGER_LEN(L, K) numbers; PLANCHECK_LEDGER_MAX are enough for every network.
  *
+ * A plan that is refused writes rows too. So a box judges an offered plan with a second ledger, not with that of the
+ * running plan, or checks the running plan again: else plancheck_link_state answers for the refused plan, with number 0.
+ *
  * DUTIES OF THE CALLER
  *   - A pointer is not NULL, except where its length is 0: then NULL will do, and so will any aligned address.
  *   - A text pointer is readable for its length in bytes; a ledger pointer is aligned for uint32_t and is readable
@@ -89,7 +92,7 @@
  *   - No other thread writes to the texts, the ledger or the buffer, or reads a ledger or a buffer that the call writes,
  *     during the call.
  * There are no others: any bytes in the texts, any numbers in the ledger and any lengths are allowed, and lead to a
- * refusal at worst.
+ * refusal at worst. A text may begin at any address.
  *
  * WHAT A CALL DOES NOT DO
  * It keeps nothing between calls and uses no heap, no global or static data, no file and no errno. The answer depends
@@ -496,7 +499,8 @@ plancheck_counts_result plancheck_network_counts(const uint8_t *network, size_t 
  * 25 to 27 and 16 to 18 in this order, each over rising items.
  *
  * A plan text of no bytes means hold: it stands for K lines in which each signal keeps its shown phase and every volume
- * is 0, and gets that plan's answer and ledger.
+ * is 0, and gets that plan's answer and ledger. It may be accepted, so do not take a transmission of which nothing came
+ * for such a text: pass it only where hold was asked for.
  *
  * Reads both texts. Writes rows of the ledger, as far as the plan passes:
  *     accepted, or refused with 9 for text after the last line     rows 0 to K

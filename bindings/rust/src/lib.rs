@@ -121,9 +121,11 @@ pub fn check_network(network: &[u8]) -> Result<(), Refusal> {
 /// Row n of the ledger belongs to boundary n and starts at index 2 × n × L: for each link what has entered, the
 /// standing start and the past steps included, and what has left by then; [`Rows`] reads it by boundary and link. A
 /// refusal at line n of the plan leaves rows 0 to n − 1 written; refusals 1 to 8, 28 and 30 leave the ledger as it was.
-/// All other numbers of the ledger keep what they held.
+/// All other numbers of the ledger keep what they held. So judge an offered plan with a second ledger while another plan
+/// runs, or check the running plan again: else [`link_state`] answers for the refused plan.
 ///
-/// An empty plan text means hold: each signal keeps its shown phase and every volume is 0 in all K steps.
+/// An empty plan text means hold: each signal keeps its shown phase and every volume is 0 in all K steps. It may be
+/// accepted: pass one only where hold was asked for, not where nothing came.
 ///
 /// # Errors
 ///
@@ -143,6 +145,12 @@ pub fn check_network(network: &[u8]) -> Result<(), Refusal> {
 /// assert_eq!(totals.inside, 0);
 /// assert_eq!(totals.doubled_time, 100_000);
 /// assert_eq!(ledger, [0, 0, 5000, 0, 5000, 5000]);
+///
+/// // An offer lets out more than there is: it is refused, and its rows are in the ledger that it was judged with.
+/// let mut offered = ledger;
+/// assert!(plancheck::check_plan(network.as_bytes(), b"P\t4000\t0\nP\t0\t5000\n", &mut offered).is_err());
+/// assert_eq!(offered, [0, 0, 4000, 0, 5000, 5000]);
+/// assert_eq!(plancheck::link_state(network.as_bytes(), &ledger, 1, 1)?.in_transit, 5000);
 /// # Ok::<(), plancheck::Refusal>(())
 /// ```
 pub fn check_plan(network: &[u8], plan: &[u8], ledger: &mut [u32]) -> Result<Totals, Refusal> {
