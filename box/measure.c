@@ -135,6 +135,29 @@ static uint32_t always_1(uint32_t bound)
     return 1;
 }
 
+#ifdef __riscv
+
+/* qemu counts the instructions itself: so many ticks each. */
+static uint32_t instructions(void)
+{
+    uint32_t count;
+    __asm__ volatile(".option push\n .option arch, +zicsr\n csrr %0, minstret\n .option pop" : "=r"(count) : : "memory");
+    return count;
+}
+
+static uint32_t ticks_of(void (*function)(void))
+{
+    uint32_t before = instructions();
+    function();
+    return instructions() - before;
+}
+
+#define LOOP_INSTRUCTIONS "1: addi %0, %0, -1\n bnez %0, 1b"
+#define STACK_POINTER "mv %0, sp"
+#define REGISTER "+r"
+
+#else
+
 /* The system timer counts down 24 bits, and sets a flag when it has come to 0. */
 #define TIMER ((volatile uint32_t *)0xE000E010)
 enum { CONTROL, RELOAD, CURRENT, TIMER_BITS = 0xffffff, STARTED = 5, CAME_TO_0 = 1 << 16 };
@@ -155,10 +178,16 @@ static uint32_t ticks_of(void (*function)(void))
     return before - after;
 }
 
+#define LOOP_INSTRUCTIONS ".syntax unified\n 1: subs %0, #1\n bne 1b"
+#define STACK_POINTER "mov %0, sp"
+#define REGISTER "+l"
+
+#endif
+
 static void loop(void)
 {
     uint32_t rounds = LOOP / 2;
-    __asm__ volatile("1: sub %0, %0, #1\n bne 1b" : "+l"(rounds) : : "cc");
+    __asm__ volatile(LOOP_INSTRUCTIONS : REGISTER(rounds) : : "cc");
 }
 
 /* The stack below this function is painted; what has lost its paint was used. */
@@ -166,7 +195,7 @@ static uint32_t stack_of(void (*function)(void))
 {
     enum { PAINT = 0xA5, PAINTED = 1 << 16 };
     volatile uint8_t *top, *lowest;
-    __asm__ volatile("mov %0, sp" : "=r"(top));
+    __asm__ volatile(STACK_POINTER : "=r"(top));
     for (lowest = top - PAINTED; lowest < top; lowest++)
         *lowest = PAINT;
     function();

@@ -102,7 +102,7 @@
  * step with vehicles * red lines. Of a network with a past an H line within the travel times is read once more for the
  * links that are at it in a step, at worst one number of it for each link.
  * The library needs memcpy and memset from the C library, at most. Every global name that it defines begins with
- * plancheck_. On a box it makes no unaligned access: the processor may trap them.
+ * plancheck_. On a box it makes no unaligned access: the processor may trap them. All targets are little-endian.
  *
  * MEMORY
  * In bytes. The stack is that of x86-64, as painted (docs/MEASUREMENTS.md; bench/run measures it).
@@ -120,8 +120,14 @@
  *     plancheck_run_cells            2,192    nothing
  *     plancheck_step_vehicles           40    nothing: the places are changed where they stand
  *     plancheck_version                  8    nothing
- * On a Cortex-M0 plancheck_check_network takes 5,668, plancheck_network_counts 5,692, plancheck_check_plan 6,568,
- * plancheck_check_sheet 7,568, plancheck_link_state 5,780 and plancheck_carry_on 6,864 of stack (box/measure).
+ * On a box, as painted, and the time of plancheck_check_plan at 48 MHz for a plan of 120 steps on 24 links. The time is an
+ * estimate: instructions, at the 1.5 cycles that one takes on a Cortex-M0 without wait states (docs/MEASUREMENTS.md).
+ *     library                     network  counts   plan  sheet  state  carry_on   time
+ *     Cortex-M0                     5,668   5,692  6,568  7,568  5,780     6,864  98 ms
+ *     Cortex-M0, narrow             5,428   5,452  6,336  7,320  5,516     6,632  57 ms
+ *     Cortex-M4                     5,592   5,544  6,364  7,340  5,612     6,672  63 ms
+ *     Cortex-M33                    5,592   5,540  6,368  7,352  5,620     6,672  63 ms
+ *     RISC-V of 32 bits             5,828   5,924  6,764  7,628  5,888     6,924  95 ms
  * plancheck_plan_from_listing is for an engineer's machine, not for a box. The texts of a box are at most
  * PLANCHECK_NETWORK_TEXT_MAX and PLANCHECK_PLAN_TEXT_MAX.
  *
