@@ -142,6 +142,10 @@
 #ifndef PLANCHECK_H
 #define PLANCHECK_H
 
+#if defined(__i386__) || (defined(__x86_64__) && defined(__ILP32__))
+#error "there is no plancheck library for x86 with pointers of 32 bits: compile for x86-64, without -m32 and -mx32"
+#endif
+
 #include <stddef.h>
 #include <stdint.h>
 

@@ -9,12 +9,27 @@
  *
  * Keep the running plan, whatever the number. No heap, nothing written, nothing of the C library: about 2.6 KB of flash
  * on a Cortex-M0. Each source file that calls plancheck_words_of has a table of its own: on a box, call it in one.
+ * C89 and later, C++98 and later.
  */
 #ifndef PLANCHECK_WORDS_H
 #define PLANCHECK_WORDS_H
 
 #include <stddef.h>
 #include <stdint.h>
+
+/* C89 has no inline, and C++98 no nullptr. */
+#if defined(__cplusplus) || (defined(__STDC_VERSION__) && __STDC_VERSION__ >= 199901L)
+#define PLANCHECK_INLINE static inline
+#elif defined(__GNUC__)
+#define PLANCHECK_INLINE static __inline__
+#else
+#define PLANCHECK_INLINE static
+#endif
+#if defined(__cplusplus) && __cplusplus >= 201103L
+#define PLANCHECK_NULL nullptr
+#else
+#define PLANCHECK_NULL NULL
+#endif
 
 /* Of which text the line is that a refusal names. */
 enum plancheck_line_kind {
@@ -44,10 +59,10 @@ typedef struct {
 } plancheck_words;
 
 /* The words for the number of a refusal; NULL for PLANCHECK_OK and where no refusal has the number. */
-static inline const plancheck_words *plancheck_words_of(uint32_t number)
+PLANCHECK_INLINE const plancheck_words *plancheck_words_of(uint32_t number)
 {
     static const plancheck_words words[] = {
-        /* 0 */ {NULL, NULL, PLANCHECK_LINE_NONE, PLANCHECK_ITEM_NONE},
+        /* 0 */ {PLANCHECK_NULL, PLANCHECK_NULL, PLANCHECK_LINE_NONE, PLANCHECK_ITEM_NONE},
         /* 1 */
         {"the network text is malformed",
          "the network's keeper", PLANCHECK_LINE_NETWORK, PLANCHECK_ITEM_NONE},
@@ -66,7 +81,7 @@ static inline const plancheck_words *plancheck_words_of(uint32_t number)
         /* 6 */
         {"the step's length or a demand is outside its limits",
          "the network's keeper", PLANCHECK_LINE_NETWORK, PLANCHECK_ITEM_STEP},
-        /* 7 */ {NULL, NULL, PLANCHECK_LINE_NONE, PLANCHECK_ITEM_NONE},
+        /* 7 */ {PLANCHECK_NULL, PLANCHECK_NULL, PLANCHECK_LINE_NONE, PLANCHECK_ITEM_NONE},
         /* 8 */
         {"the ledger is too short",
          "the programmer", PLANCHECK_LINE_NONE, PLANCHECK_ITEM_NONE},
@@ -173,14 +188,14 @@ static inline const plancheck_words *plancheck_words_of(uint32_t number)
         {"a buffer is too short",
          "the programmer", PLANCHECK_LINE_NONE, PLANCHECK_ITEM_NONE},
     };
-    if (number >= sizeof words / sizeof words[0] || words[number].meaning == NULL) {
-        return NULL;
+    if (number >= sizeof words / sizeof words[0] || words[number].meaning == PLANCHECK_NULL) {
+        return PLANCHECK_NULL;
     }
     return &words[number];
 }
 
 /* The text that a line is of, in words; "" where no line is named. */
-static inline const char *plancheck_line_word(uint32_t line_kind)
+PLANCHECK_INLINE const char *plancheck_line_word(uint32_t line_kind)
 {
     switch (line_kind) {
     case PLANCHECK_LINE_NETWORK:
@@ -199,7 +214,7 @@ static inline const char *plancheck_line_word(uint32_t line_kind)
 }
 
 /* What an item is, in words; "" where no item is named. */
-static inline const char *plancheck_item_word(uint32_t item_kind)
+PLANCHECK_INLINE const char *plancheck_item_word(uint32_t item_kind)
 {
     switch (item_kind) {
     case PLANCHECK_ITEM_SIGNAL:
@@ -215,4 +230,6 @@ static inline const char *plancheck_item_word(uint32_t item_kind)
     }
 }
 
+#undef PLANCHECK_INLINE
+#undef PLANCHECK_NULL
 #endif
