@@ -88,7 +88,7 @@ def archive():
     """The archive for x86-64."""
     done = subprocess.run(["tools/archive"], stdout=subprocess.PIPE, text=True)
     if done.returncode != 0:
-        sys.exit(1)
+        sys.exit(2)
     return f"{done.stdout.strip()}/libplancheck.a"
 
 
