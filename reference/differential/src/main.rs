@@ -1,6 +1,6 @@
 //! Compares the C library with the other implementation: each answer, every number of the ledger and every byte of the buffer after the call.
 //!
-//! `differential COUNT SEED`: at least COUNT inputs, made from SEED. The inputs of round n are those of the seed SEED + n, so that a
+//! `differential COUNT SEED`: whole rounds of inputs made from SEED, until they are COUNT or more. The inputs of round n are those of the seed SEED + n, so that a
 //! difference can be found again by itself: `differential 1 SEED` with the seed that is printed.
 
 mod compare;
@@ -50,7 +50,7 @@ fn main() -> ExitCode {
         return ExitCode::FAILURE;
     };
     let counts = run(*count, *seed);
-    report(&counts);
+    report(&counts, *count);
     if counts.differences == 0 {
         ExitCode::SUCCESS
     } else {
@@ -77,7 +77,7 @@ fn run(count: u64, first_seed: u64) -> Counts {
         if counts.inputs >= shown + count / 10 {
             shown = counts.inputs;
             let differences = counts.differences;
-            eprintln!("{shown} of {count} inputs, {differences} differences");
+            eprintln!("{shown} inputs, of {count} or more in whole rounds; {differences} differences");
         }
     }
     counts
@@ -147,7 +147,7 @@ fn tell_place<T: PartialEq + Display>(name: &str, expected: &[T], given: &[T]) {
     }
 }
 
-fn report(counts: &Counts) {
+fn report(counts: &Counts, count: u64) {
     println!("answer\t{}", CALLS.join("\t"));
     for number in (0..=6).chain(8..=35) {
         let count = |call| counts.answers.get(&(call, number)).copied().unwrap_or(0);
@@ -160,6 +160,6 @@ fn report(counts: &Counts) {
         println!("{name}\t{}", columns.join("\t"));
     }
     println!("passed over\t{}", counts.passed_over);
-    println!("inputs\t{}", counts.inputs);
+    println!("inputs, {count} or more in whole rounds\t{}", counts.inputs);
     println!("differences\t{}", counts.differences);
 }

@@ -52,7 +52,7 @@ fn main() -> ExitCode {
         compare_round(&mut counts, seed);
         seed = seed.wrapping_add(1);
     }
-    report(&counts);
+    report(&counts, *count);
     if counts.differences == 0 {
         ExitCode::SUCCESS
     } else {
@@ -189,10 +189,10 @@ fn narrow(number: u64) -> u32 {
     u32::try_from(number).expect("the header has 32 bits for this number")
 }
 
-fn report(counts: &Counts) {
+fn report(counts: &Counts, count: u64) {
     for (number, calls) in &counts.answers {
         println!("answer {number}\t{calls}");
     }
-    println!("calls\t{}", counts.calls);
+    println!("calls, {count} or more in whole rounds\t{}", counts.calls);
     println!("differences\t{}", counts.differences);
 }
