@@ -1,6 +1,6 @@
 //! Links `libplancheck.a` from the folder that the environment variable `PLANCHECK_LIB_DIR` names, where one stands;
-//! without the variable from the release that the crate is part of, which has one for each target in `lib`. Without both
-//! nothing that has to be linked builds; documentation and `cargo check` need no archive.
+//! where it is empty or not set, from the release that the crate is part of, which has one for each target in `lib`.
+//! Without both nothing that has to be linked builds; documentation and `cargo check` need no archive.
 
 use std::path::{Path, PathBuf};
 use std::process::ExitCode;
@@ -10,12 +10,16 @@ const ARCHIVE: &str = "libplancheck.a";
 fn main() -> ExitCode {
     println!("cargo:rerun-if-env-changed=PLANCHECK_LIB_DIR");
     println!("cargo:rustc-link-lib=static=plancheck");
-    let folder = match std::env::var_os("PLANCHECK_LIB_DIR") {
+    let named = std::env::var_os("PLANCHECK_LIB_DIR").filter(|named| !named.is_empty());
+    let folder = match named {
         Some(named) => named_folder(Path::new(&named)),
         None => {
             let folder = folder_beside();
             if !folder.join(ARCHIVE).is_file() {
-                println!("cargo:warning=PLANCHECK_LIB_DIR is not set: what links needs it, the folder of {ARCHIVE} (tools/archive prints it)");
+                println!(
+                    "cargo:warning=PLANCHECK_LIB_DIR is not set: what links needs it, the folder of {ARCHIVE}{}",
+                    lacking(&folder)
+                );
                 return ExitCode::SUCCESS;
             }
             Ok(folder)
@@ -39,6 +43,17 @@ fn folder_beside() -> PathBuf {
     let crate_folder = std::env::var_os("CARGO_MANIFEST_DIR").unwrap_or_default();
     let target = std::env::var_os("TARGET").unwrap_or_default();
     Path::new(&crate_folder).join("../../lib").join(target)
+}
+
+/// Says that the release, where the crate is part of one, has no library for the target.
+fn lacking(folder: &Path) -> String {
+    match folder.parent() {
+        Some(libraries) if libraries.is_dir() => format!(
+            "; the release has none for this target: there is no {}",
+            folder.display()
+        ),
+        _ => String::new(),
+    }
 }
 
 /// The folder, from the root. A build script stands in its package's folder; a relative name is meant from where cargo was

@@ -5,6 +5,8 @@
 //! cargo run --example carry -- ../../examples/avenue 2
 //! ```
 
+mod show;
+
 use plancheck::{carry_on, check_plan, network_counts, NetworkText, PlanText, MAX_LEDGER_LEN, MAX_NETWORK_TEXT_LEN};
 use std::error::Error;
 use std::path::PathBuf;
@@ -33,21 +35,22 @@ fn main() -> Result<(), Box<dyn Error>> {
     let carried = &carried[..length];
 
     let now = NetworkText::read(carried)?;
-    tell(&now);
     let held = PlanText::hold(&now);
-    match check_plan(carried, held.to_string().as_bytes(), &mut ledger) {
-        Ok(totals) => println!("held still: accepted, {} inside at the end", totals.inside),
-        Err(refusal) => println!("held still: {refusal}"),
-    }
+    let verdict = match check_plan(carried, held.to_string().as_bytes(), &mut ledger) {
+        Ok(totals) => format!("accepted, {} inside at the end", totals.inside),
+        Err(refusal) => refusal.to_string(),
+    };
+    show::show(&format!("{}held still: {verdict}\n", told(&now)))?;
     Ok(())
 }
 
-fn tell(now: &NetworkText) {
-    for (place, signal) in now.signals.iter().enumerate() {
+fn told(now: &NetworkText) -> String {
+    let signals = now.signals.iter().enumerate().map(|(place, signal)| {
         let (shown, shown_for) = (signal.shown, signal.shown_for);
-        println!("signal {} shows phase {shown}, for {shown_for} s so far", place + 1);
-    }
+        format!("signal {} shows phase {shown}, for {shown_for} s so far\n", place + 1)
+    });
+    let signals: String = signals.collect();
     let waiting: u32 = now.links.iter().map(|link| link.waiting).sum();
     let left = now.steps.len();
-    println!("{waiting} thousandths of a vehicle wait outside, {left} steps are left");
+    format!("{signals}{waiting} thousandths of a vehicle wait outside, {left} steps are left\n")
 }

@@ -4,8 +4,11 @@
 //! cargo run --example judge -- ../../examples/avenue
 //! ```
 
+mod show;
+
 use plancheck::{check_plan, link_state, network_counts, Refusal, Rows};
 use std::error::Error;
+use std::fmt::Write;
 use std::path::PathBuf;
 use std::process::ExitCode;
 
@@ -14,7 +17,10 @@ fn main() -> Result<ExitCode, Box<dyn Error>> {
     let network = std::fs::read(folder.join("network.tsv"))?;
     let plan = std::fs::read(folder.join("plan.tsv"))?;
     match judge(&network, &plan) {
-        Ok(()) => Ok(ExitCode::SUCCESS),
+        Ok(text) => {
+            show::show(&text)?;
+            Ok(ExitCode::SUCCESS)
+        }
         Err(refusal) => {
             eprintln!("{refusal}");
             Ok(ExitCode::FAILURE)
@@ -22,26 +28,27 @@ fn main() -> Result<ExitCode, Box<dyn Error>> {
     }
 }
 
-fn judge(network: &[u8], plan: &[u8]) -> Result<(), Refusal> {
+fn judge(network: &[u8], plan: &[u8]) -> Result<String, Refusal> {
     let counts = network_counts(network)?;
     let mut ledger = vec![0; counts.required_ledger_len()];
     let totals = check_plan(network, plan, &mut ledger)?;
-    println!("travel time {} vehicle seconds", to_vehicles(totals.doubled_time) / 2.0);
+    let mut text = format!(
+        "travel time {} vehicle seconds\n",
+        to_vehicles(totals.doubled_time) / 2.0
+    );
 
     let rows = Rows::of(&ledger, &counts);
     for boundary in 0..=counts.steps {
-        print!("{boundary:>4}");
+        let _ = write!(text, "{boundary:>4}");
         for (link, volumes) in rows.of_boundary(boundary).enumerate() {
             let state = link_state(network, &ledger, to_index(boundary), to_index(link + 1))?;
-            print!(
-                "  {} of {}",
-                to_vehicles(state.queued.into()),
-                to_vehicles(volumes.held().into())
-            );
+            let (queued, held) = (to_vehicles(state.queued.into()), to_vehicles(volumes.held().into()));
+            // a String takes all that is written
+            let _ = write!(text, "  {queued} of {held}");
         }
-        println!();
+        text.push('\n');
     }
-    Ok(())
+    Ok(text)
 }
 
 /// Thousandths of a vehicle as vehicles, for people to read.

@@ -4,6 +4,8 @@
 //! cargo run --example write -- FOLDER
 //! ```
 
+mod show;
+
 use plancheck::{check_plan, phase_mask, Link, Movement, NetworkText, Phase, PlanText, Signal, Step, MAX_LEDGER_LEN};
 use std::error::Error;
 use std::path::PathBuf;
@@ -16,11 +18,10 @@ fn main() -> Result<(), Box<dyn Error>> {
 
     let mut ledger = vec![0; MAX_LEDGER_LEN];
     let totals = check_plan(network.as_bytes(), plan.as_bytes(), &mut ledger)?;
-    println!("{} thousandths of a vehicle let out", totals.let_out);
-
     std::fs::create_dir_all(&folder)?;
     std::fs::write(folder.join("network.tsv"), network)?;
     std::fs::write(folder.join("plan.tsv"), plan)?;
+    show::show(&format!("{} thousandths of a vehicle let out\n", totals.let_out))?;
     Ok(())
 }
 
