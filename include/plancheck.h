@@ -14,12 +14,12 @@
  *         report(result.number, result.line, result.item);
  *     }
  *
- * Link with libplancheck.a. The calls follow the System V calling convention of x86-64; structs go by value. box/build
- * makes the seven calls of a box (plancheck_version, plancheck_check_network, plancheck_network_counts,
- * plancheck_check_plan, plancheck_check_sheet, plancheck_link_state and plancheck_carry_on) for other processors too, with
+ * Link with libplancheck.a. The calls follow the System V calling convention of x86-64; structs go by value. There are
+ * archives for other processors too, with the seven calls of a box (plancheck_version, plancheck_check_network,
+ * plancheck_network_counts, plancheck_check_plan, plancheck_check_sheet, plancheck_link_state and plancheck_carry_on) by
  * the calling convention of each (docs/TARGETS.md); there this header declares no others. The toolchain doesn't support
  * that route: the compiled module is the same, but on no processor is code generation part of what is proved, and on these
- * the answers are compared with those of x86-64 (box/run).
+ * the answers are compared with those of x86-64.
  *
  * UNITS
  *     volume   thousandths of a vehicle
@@ -105,7 +105,7 @@
  * plancheck_. On a box it makes no unaligned access: the processor may trap them. All targets are little-endian.
  *
  * MEMORY
- * In bytes. The stack is that of x86-64, as painted (docs/MEASUREMENTS.md; bench/run measures it).
+ * In bytes. The stack is that of x86-64, as painted (docs/MEASUREMENTS.md).
  *     call                          stack     lent, beside what it reads
  *     plancheck_check_network        5,536    nothing
  *     plancheck_network_counts       5,584    nothing
@@ -190,7 +190,7 @@ extern "C" {
 
 /*
  * The library takes texts of any length. No valid network text and no accepted plan text is longer than this, in bytes,
- * however it is padded: you may refuse a longer one unread. Both are proved (crates/text_lengths), and reached where
+ * however it is padded: you may refuse a longer one unread. Both are proved, and reached where
  * every number is padded to 10 digits: by a network of 118 past steps, 2 steps and 16 tram lines, and by a plan of 120
  * steps.
  */

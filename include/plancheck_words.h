@@ -1,6 +1,6 @@
 /*
- * plancheck_words.h: the refusals of plancheck.h in words, so that two makers' screens say the same. Written by
- * tools/words from docs/REFUSALS.md, which says more: mend that page, not this file.
+ * plancheck_words.h: the refusals of plancheck.h in words, so that two makers' screens say the same. Written by a program
+ * from docs/REFUSALS.md, which says more: mend that page, not this file.
  *
  *     const plancheck_words *words = plancheck_words_of(result.number);
  *     if (words != NULL) {

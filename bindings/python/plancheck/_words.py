@@ -380,8 +380,7 @@ WORDS = {
         " a second border movement. Line 0",
         "the network cannot be split there",
         "whoever chose the halves",
-        "the set of links, and the movements between the halves; workbench/run split names each "
-        "that can't be, and why",
+        "the set of links, and the movements between the halves",
         "",
         "",
     ),
