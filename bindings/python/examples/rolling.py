@@ -9,10 +9,12 @@ network on. FOLDER has a network.tsv; the workbench's program must be there for 
 from __future__ import annotations
 
 import sys
-from itertools import product
+from collections.abc import Sequence
 from pathlib import Path
 
 from plancheck import Network, Plan, Refused, Report, Signal, carry_on, check, flows, mask_of
+
+PARTS = (0.0, 0.15, 0.3, 0.5, 0.7)
 
 
 def phases_of_signal(signal: Signal, lengths: list[int], part: float) -> list[int]:
@@ -30,30 +32,33 @@ def phases_of_signal(signal: Signal, lengths: list[int], part: float) -> list[in
     return phases
 
 
-def programs(network: Network) -> list[Plan]:
-    """Signal programs: each signal by short, middle or long phases."""
+def program(network: Network, parts: Sequence[float]) -> Plan:
+    """The signal program in which each signal's phases show for its part of their ways."""
     lengths = [step.length for step in network.steps]
-    found = []
-    for parts in product((0.0, 0.3, 0.6), repeat=len(network.signals)):
-        plan = Plan.hold(network)
-        for place, (signal, part) in enumerate(zip(network.signals, parts)):
-            phases = phases_of_signal(signal, lengths, part)
-            plan.masks[:, place] = [mask_of([phase]) for phase in phases]
-        found.append(plan)
-    return found
+    plan = Plan.hold(network)
+    for place, (signal, part) in enumerate(zip(network.signals, parts)):
+        phases = phases_of_signal(signal, lengths, part)
+        plan.masks[:, place] = [mask_of([phase]) for phase in phases]
+    return plan
 
 
-def best(network: Network) -> Report:
-    """The quickest of the programs that keep the rules of signals."""
-    reports = []
-    for program in programs(network):
-        try:
-            reports.append(check(network, flows(network, program)))
-        except Refused:
-            continue
-    if not reports:
+def best_by_turns(network: Network) -> Report:
+    """The quickest of the programs that it tries: from middle phases on, each signal in turn is
+    given shorter or longer ones as long as that is quicker."""
+    parts = [PARTS[1]] * len(network.signals)
+    best: Report | None = None
+    for place in range(len(parts)):
+        for part in PARTS:
+            tried = [*parts[:place], part, *parts[place + 1 :]]
+            try:
+                report = check(network, flows(network, program(network, tried)))
+            except Refused:
+                continue
+            if best is None or report.travel_time < best.travel_time:
+                parts, best = tried, report
+    if best is None:
         raise SystemExit("no program keeps the rules of signals")
-    return min(reports, key=lambda report: report.travel_time)
+    return best
 
 
 def main() -> None:
@@ -63,7 +68,7 @@ def main() -> None:
     network = Network.read(folder)
     second, driven = 0, 0.0
     while True:
-        report = best(network)
+        report = best_by_turns(network)
         left = len(network.steps)
         print(f"second {second}: {report.travel_time:.1f} vehicle seconds are left")
         if left <= every:

@@ -17,7 +17,7 @@ A network and a plan are texts (docs/FORMAT.md), or objects that have one:
 
 The answers are those of the proved C library; a refusal is raised as `Refused`. `plancheck.calls`
 has the calls of the C header one to one, with lent ledgers and buffers; `plancheck.workbench` what
-the workbench's program does.
+the workbench's program does; `plancheck.sumo` nets, programs and simulations of SUMO, both ways.
 """
 
 from ._texts import Text

@@ -118,7 +118,8 @@ def _parts(network: bytes) -> _Parts | None:
 def _of_form(line: list[str], letter: str, due: int) -> list[int]:
     """Of a malformed line: a wrong letter, bad numbers, and the first that is missing or too
     much."""
-    wrong = [0] if letter and line[:1] != [letter] else []
+    first = line[0] if line else ""
+    wrong = [0] if line and (first != letter if letter else len(first) != 1) else []
     wrong += [place for place, field in enumerate(line) if place and not _is_number(field)]
     if not wrong and line and len(line) - 1 != due:
         wrong = [min(len(line), due + 1)]

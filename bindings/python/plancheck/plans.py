@@ -54,7 +54,8 @@ class Plan:
         due = counts.steps if data else 0
         good = [row for row in rows[:due] if row is not None]
         if len(good) != due or len(rows) != due:
-            wrong = next((n for n, row in enumerate(rows[:due]) if row is None), min(len(rows), due))
+            malformed = [n for n, row in enumerate(rows[:due]) if row is None]
+            wrong = min([*malformed, len(rows), due])
             raise Refused(_PLAN_FORM, wrong + 1, 0, 0, {"network": network, "plan": data})
         table = np.array(good, dtype=np.int64).reshape(due, int(ends[-1]))
         return cls(*np.split(table, ends[:-1], axis=1))
@@ -91,9 +92,7 @@ class Plan:
 
     def __getitem__(self, steps: slice) -> Plan:
         """The plan of some of its steps: `plan[:8]` is what `carry_on` wants for boundary 8."""
-        return Plan(
-            self.masks[steps], self.admitted[steps], self.let_out[steps], self.moved[steps]
-        )
+        return Plan(self.masks[steps], self.admitted[steps], self.let_out[steps], self.moved[steps])
 
     def __eq__(self, other: object) -> bool:
         return isinstance(other, Plan) and self.text() == other.text()

@@ -47,7 +47,9 @@ def test_structs_have_the_sizes_of_the_header() -> None:
 
 
 def test_limits_are_those_of_the_header() -> None:
-    limits = dict(re.findall(r"(?m)^#define PLANCHECK_(MAX_\w+|\w+_TEXT_MAX|WRITTEN_\w+) (\d+)$", HEADER))
+    limits = dict(
+        re.findall(r"(?m)^#define PLANCHECK_(MAX_\w+|\w+_TEXT_MAX|WRITTEN_\w+) (\d+)$", HEADER)
+    )
     assert len(limits) == 13
     for name, value in limits.items():
         assert getattr(calls, name) == int(value), name

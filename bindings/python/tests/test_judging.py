@@ -191,7 +191,9 @@ def test_threads_may_call_at_once(corridor: Path) -> None:
 
 def test_cells_run() -> None:
     run = run_cells(EXAMPLES / "cells/corridor.tsv")
-    lines = [line.split("\t") for line in (EXAMPLES / "cells/expected.txt").read_text().splitlines()]
+    lines = [
+        line.split("\t") for line in (EXAMPLES / "cells/expected.txt").read_text().splitlines()
+    ]
     assert [len(run.volumes), run.flow_in, run.flow_out] == list(map(int, lines[0][1:]))
     assert run.volumes.tolist() == [int(line[2]) for line in lines[1:]]
 

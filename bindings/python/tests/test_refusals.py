@@ -44,6 +44,13 @@ def test_words_are_those_of_the_page() -> None:
         assert row and words.meaning in row[0].replace("`", ""), number
 
 
+def test_a_name_of_a_file_is_shown_as_what_it_was_read_as() -> None:
+    """A str is a text: whoever meant a path sees it in the refusal."""
+    told = refusal_of("examples/corridor")
+    assert (told.number, told.line) == (1, 1)
+    assert str(told).endswith("(letter: examples/corridor)")
+
+
 def test_an_unknown_number_has_no_words() -> None:
     assert str(Refused(99)) == "refused with 99: the number is unknown"
 
