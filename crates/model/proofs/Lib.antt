@@ -8,6 +8,7 @@ pub mod LedgerCases
 pub mod Witness
 pub mod Accepted
 pub mod Limits
+pub mod Shares
 pub mod Times
 pub mod Timeline
 pub mod Arrived

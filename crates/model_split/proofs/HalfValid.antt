@@ -11,6 +11,7 @@ use Rattle.model.specs.Table.{letter_t, letter_g, letter_q, letter_m, letter_s, 
 use Rattle.base_laws.proofs.Tests.{and_left, and_right, or_cases, every-at, and_both, or_left, or_right, either_way, not-both, every_of, is_within}
 use Rattle.base_laws.proofs.Sums.{sum_bound, list_length}
 use Rattle.model.proofs.Accepted.{ValidNetwork}
+use Rattle.model.proofs.Shares.{last_some}
 use Rattle.model.proofs.Limits.{counts, link-limits, movement-limits}
 use Rattle.model.proofs.Timeline.{entered-start, left-start}
 use Rattle.model_text.proofs.Lines.{count-form, all_lines}
@@ -22,7 +23,7 @@ use Rattle.model_split.proofs.Tests.{Found, find}
 use Rattle.model_split.proofs.Numbering.{rank_rises, rank_lt, rank-le, ranked, ranked-all, renumbered, picked-length}
 use Rattle.model_split.proofs.Same.{IsHalf, Apart, inside-from, inside-to, from_parts, no-signal, its-signal}
 use Rattle.model_split.proofs.Border.{Splittable, Crossing, NoCrossing, crosses-from, not-inside}
-use Rattle.model_split.proofs.Movements.{Above, pairs-rise, last-zero, last_some}
+use Rattle.model_split.proofs.Movements.{Above, pairs-rise, last-zero}
 use Rattle.model_split.proofs.Trams.{signal-there, tram-signal}
 use Rattle.model_split.proofs.Lines.{half-trams, tram-line, signal-line, link-line, movement-line, step_line_lem, signal-kept, is-half}
 

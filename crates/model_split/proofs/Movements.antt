@@ -1,4 +1,4 @@
--- The movements of a valid network: their pairs rise, and whether one leaves a link.
+-- The movements of a valid network: their pairs rise, and no movement leaves a link.
 use Rattle.base_laws.proofs.Kit.{◌≡◌, refl, ap, ◌∙◌, true, false, cond, ◌⊎◌, inl, inr, List, ℕ, zero, suc, ◌≤◌, ◌<◌, eq-or-lt_of_le, arith, ltb, eqb, ltb-true, eqb-true, eqb-false}
 use Rattle.text_reader.specs.Lines.{Line}
 use Rattle.base_laws.specs.Test.{◌and◌}
@@ -30,19 +30,8 @@ module _ (network : List Line) where
       go (inl e) t ih = let i : j ≡ k = omega arith in rw i t
       go (inr w) t ih = on (ih (omega arith)) t
 
-  -- no movement leaves link i, or one does
+  -- no movement leaves link i
   pub last-zero : (m i : ℕ) → ((k : ℕ) → k < m → eqb (from_link network k) (suc i) ≡ false) → last_movement network m i ≡ 0
   unfolding last_movement
   last-zero zero i h = refl
   last-zero (suc m) i h = rw (h m (omega arith)) (last-zero m i (λ k l. h k (omega arith)))
-
-  pub last_some : (m i j : ℕ) → j < m → from_link network j ≡ suc i → 1 ≤ last_movement network m i
-  unfolding last_movement
-  last_some zero i j l e = absurd (omega arith)
-  last_some (suc m) i j l e = go (either_way (eqb (from_link network m) (suc i))) (eq-or-lt_of_le l) (λ u. last_some m i j u e)
-    where
-      go : (eqb (from_link network m) (suc i) ≡ true) ⊎ (eqb (from_link network m) (suc i) ≡ false) → (suc j ≡ suc m) ⊎ (suc j < suc m) → (j < m → 1 ≤ last_movement network m i)
-          → 1 ≤ cond (eqb (from_link network m) (suc i)) (suc m) (last_movement network m i)
-      go (inl t) w ih = rw t (omega arith)
-      go (inr t) (inl w) ih = let k : m ≡ j = omega arith in absurd (eqb-false _ _ t (ap (from_link network) k ∙ e))
-      go (inr t) (inr w) ih = rw t (ih (omega arith))

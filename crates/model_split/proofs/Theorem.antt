@@ -12,6 +12,7 @@ use Rattle.model.specs.Table.{network_checks}
 use Rattle.base_laws.proofs.Tests.{and_left, and_right, or_cases, and_both, or_left, either_way, true-not}
 use Rattle.base_laws.proofs.Sums.{sum_bound}
 use Rattle.model.proofs.Accepted.{ValidNetwork, LawfulStep, valid-network}
+use Rattle.model.proofs.Shares.{whole-share}
 use Rattle.model.proofs.Limits.{movement-limits}
 use Rattle.model_text.specs.NetworkText.{network_lines}
 use Rattle.model_text.proofs.Formed.{Formed, formed-of-holds}
@@ -22,7 +23,6 @@ use Rattle.model_split.proofs.Tests.{sum_one}
 use Rattle.model_split.proofs.Same.{Apart}
 use Rattle.model_split.proofs.Border.{Splittable, Crossing, NoCrossing, crosses-from, first-apart, second-apart}
 use Rattle.model_split.proofs.Lines.{half-links, half-steps, admitted-written, let-out-written, plan-form, plan-length}
-use Rattle.model_split.proofs.Movements.{last_some}
 use Rattle.model_split.proofs.HalfValid.{half-holds}
 use Rattle.model_split.proofs.Judged.{FormedPlan, Judged}
 use Rattle.model_split.proofs.Halves.{KeepsHalf, half-limits, half_keeps, keeps_half}
@@ -129,11 +129,7 @@ module _ (network plan : List Line) (first : ℕ → Bool) (holds : Hold (networ
         (λ k w e. (s.kinds j u c).alone k w (let x = eqb-true (from_link network k) (suc from) e in omega (arith, x, from_is)))
 
     share-whole : share network j ≡ 1000
-    share-whole = go (or_cases _ _ (unfold valid_shares in valid.shares from from-there))
-      where
-        go : (eqb (last_movement network M from) 0 ≡ true) ⊎ (eqb (sum M (λ k. only (eqb (from_link network k) (suc from)) (share network k))) 1000 ≡ true) → share network j ≡ 1000
-        go (inl z) = absurd (let q = eqb-true (last_movement network M from) 0 z in omega (arith, q, last_some network M from j u from_is))
-        go (inr z) = let q = eqb-true (sum M (λ k. only (eqb (from_link network k) (suc from)) (share network k))) 1000 z in omega (arith, q, alone (share network))
+    share-whole = omega (arith, rw from_is at (whole-share network valid j u), alone (share network))
 
     border16 : (n : ℕ) → rule16 network plan n j ≡ true
     unfolding rule16 moved_from

@@ -3,13 +3,14 @@ use Rattle.base_laws.proofs.Kit.{ℕ, ◌+◌, ◌*◌, ◌≡◌, ◌↔◌, sy
 use Rattle.base_search.specs.Checks.{verdict, table}
 use Rattle.network_tables.specs.Fields.{length_in}
 use Rattle.step_signals.specs.Rules.{SignalRulesKept}
-use Rattle.step_limits.specs.Limits.{LimitsKept}
+use Rattle.step_limits.specs.Limits.{LimitsKept, InProportion}
 use Rattle.step_rows.specs.declared.Step.{Step}
 use Rattle.step_rows.specs.Rows.{next_row, RowAlone}
 use Rattle.step_rows.proofs.Next.{length-next}
-use Rattle.step_sums.specs.Sums.{SumsKept}
+use Rattle.step_sums.specs.Sums.{LinkSumsKept, SumsKept}
 use Rattle.step_check.specs.Step.{made_row, step_rules_in, PassGot}
 use Rattle.step_check.proofs.Rules.{all_pass, sums-passed}
+use Rattle.step_check.proofs.Shares.{shares-kept}
 use Rattle.std.specs.Prelude.{Ok}
 
 -- formed again the row would be the same
@@ -25,12 +26,14 @@ module _ {step : Step} {previous row after : List ℕ} where
       → RowAlone step.counts row after → PassGot step previous row false after
   pass-stops broken kept alone = record { told = λ t. cc; passes = λ p. sym broken ∙ kept p; alone = alone }
 
-  -- the row is formed, and the sums decide
+  -- the row is formed, the movements are in proportion, and the sums of the links decide
   pub pass-ends : after ≡ made_row step previous row → RowAlone step.counts row after
-      → SignalRulesKept step.signals.now step.counts.signals step.phases.now step.asked.now (length_in step.step_line.now) → LimitsKept step
-      → {b : Bool} → (b ≡ true) ↔ SumsKept step previous after → PassGot step previous row b after
-  pass-ends made alone of_signals limits sums = record {
-    told = λ t. record { told = sym (all_pass step previous _ of_signals limits (rw made at (sums.0 t)) (step.boundary + 1)); made = λ p. made };
-    passes = λ p. sums.1 (rw made (sums-passed step previous _ (step.boundary + 1) p));
+      → SignalRulesKept step.signals.now step.counts.signals step.phases.now step.asked.now (length_in step.step_line.now) → LimitsKept step → InProportion step step.counts.movements
+      → {b : Bool} → (b ≡ true) ↔ LinkSumsKept step previous after step.counts.links → PassGot step previous row b after
+  pass-ends made alone of_signals limits proportion sums = record {
+    told = λ t.
+        let of-sums : SumsKept step previous (made_row step previous row) = record { of-movements = shares-kept step proportion; of-links = rw made at (sums.0 t) } in
+        record { told = sym (all_pass step previous _ of_signals limits of-sums (step.boundary + 1)); made = λ p. made };
+    passes = λ p. sums.1 (rw made (sums-passed step previous _ (step.boundary + 1) p).of-links);
     alone = alone;
   }

@@ -1,6 +1,6 @@
 // The judgement of one step of a plan: rules 10 to 18, 25 to 27 and 29 in their order, each over rising items. Most steps keep all of them, which a pass
-// finds. It goes over the signals once. It goes over links and movements twice: to test the limits of their volumes (15, 25 to 27) while it forms the row after the step,
-// and to test the sums of 16 to 18, which read the whole row. Otherwise the rules are searched for the first that is broken; there the row is formed only once the limits
+// finds. It goes over the signals once. It goes over links and movements to test the limits of their volumes (15, 25 to 27), and 16 by proportions, while it forms
+// the row after the step; and over the links again to test the sums of 17 and 18, which read the whole row. Otherwise the rules are searched for the first that is broken; there the row is formed only once the limits
 // are kept, so that its sums fit.
 #![tactic(auto)]
 
@@ -123,7 +123,8 @@ fn first_break(step: &Step, previous: &[u32], row: &mut [u32]) -> Result<(), Ref
     found
 }
 
-// Whether the step keeps every rule: first the signals, then the limits of links and movements, by which the row after it is formed, then the sums of that row.
+// Whether the step keeps every rule: first the signals, then the limits of links and movements and the proportions, by which the row after it is formed, then the
+// sums of that row.
 fn keeps_rules(step: &Step, previous: &[u32], row: &mut [u32]) -> bool
     requires asked { JudgeAsked step.now previous.now row.old }
     requires before { 2 * step.now.counts.links ≤ length previous.now }
@@ -142,7 +143,7 @@ fn keeps_rules(step: &Step, previous: &[u32], row: &mut [u32]) -> bool
         previous,
         row,
     };
-    rows.keeps_sums()
+    rows.keeps_link_sums()
 }
 
 // Judges a step, and forms the row after it in a lent row.

@@ -1,3 +1,4 @@
 pub mod Turns
+pub mod Proportions
 pub mod Passed
 pub mod Texts

@@ -1,10 +1,10 @@
--- Rules 15 and 25 to 27 at one step, as tests of the program's tables. Links, movements and signals are counted from 0, a link's signal and a movement's links from 1.
-use Rattle.std.specs.Prelude.{◌≡◌, ◌↔◌, Bool, true, List, ◌++◌, ℕ, ◌*◌, ◌-◌, ◌<◌, leb, eqb, get_or, drop}
+-- Rules 15 and 25 to 27 at one step, and rule 16 by proportions, as tests of the program's tables. Links, movements and signals are counted from 0, a link's signal and a movement's links from 1.
+use Rattle.std.specs.Prelude.{◌≡◌, ◌↔◌, Bool, true, not, List, ◌++◌, ℕ, ◌*◌, ◌-◌, ◌<◌, ◌==◌, leb, eqb, get_or, drop}
 use Rattle.base_laws.specs.Test.{◌or◌}
 use Rattle.model.specs.Signals.{opens}
 use Rattle.network_tables.specs.declared.Counts.{Counts}
 use Rattle.network_tables.specs.declared.Link.{Link}
-use Rattle.network_tables.specs.Fields.{exit_rate_in, signal_in, phase_mask_in, link_in, rate_in, length_in, admitted_in, let_out_in, moved_in}
+use Rattle.network_tables.specs.Fields.{exit_rate_in, signal_in, phase_mask_in, link_in, rate_in, share_in, length_in, admitted_in, let_out_in, moved_in}
 use Rattle.step_rows.specs.declared.Step.{Step}
 use Rattle.step_rows.specs.Rows.{pairs, base_entered, base_left, next_row, Base, Room, Added, Fits, RowAlone}
 use Rattle.step_rows.specs.Waiting.{offer_in}
@@ -30,6 +30,12 @@ moves_rate step j = leb (moved_in step.counts step.plan_line.now j) (rate_in ste
 -- 27, movement j: it is 0 if its from link is shut
 unfoldable pub moves_open : Step → ℕ → Bool
 moves_open step j = is_open_in step.links.now step.phases.now (link_in step.movements.now 0 j - 1) or eqb (moved_in step.counts step.plan_line.now j) 0
+
+-- movement j is to its share as the movement before it is to that one's, where both leave one link
+unfoldable pub in_proportion : Step → ℕ → Bool
+in_proportion step j =
+    not (link_in step.movements.now 0 (j - 1) == link_in step.movements.now 0 j)
+    or moved_in step.counts step.plan_line.now j * share_in step.movements.now (j - 1) == moved_in step.counts step.plan_line.now (j - 1) * share_in step.movements.now j
 
 -- the number of a limit, to how many items it is put, and whether it holds of one
 abbrev pub limit_rule_number : LimitRule → ℕ
@@ -66,7 +72,11 @@ pub record LimitsKept (step : Step) : Type 0 where
   pub of-links : LinkLimitsKept step step.counts.links
   pub of-movements : MovementLimitsKept step step.counts.movements
 
--- the first n links keep their limits, and a row has begun with them; the first m movements keep theirs, and have been added to it. Its sums wrap, so that it
+-- the first n movements are in proportion
+abbrev pub InProportion : Step → ℕ → Type 0
+InProportion step n = (j : ℕ) → j < n → in_proportion step j ≡ true
+
+-- the first n links keep their limits, and a row has begun with them; the first m movements keep theirs in proportion, and have been added to it. Its sums wrap, so that it
 -- is fixed only where they fit
 pub record LinksPassed (step : Step) (previous before : List ℕ) (n : ℕ) (row : List ℕ) : Type 0 where
   pub kept : LinkLimitsKept step n
@@ -75,11 +85,12 @@ pub record LinksPassed (step : Step) (previous before : List ℕ) (n : ℕ) (row
 
 pub record MovementsPassed (step : Step) (before : List ℕ) (m : ℕ) (row : List ℕ) : Type 0 where
   pub kept : MovementLimitsKept step m
+  pub in-proportion : InProportion step m
   pub added : Room step.counts step.plan_line.now step.movements.now before → Added step.counts step.plan_line.now step.movements.now before m row
 
--- what a pass over all limits promises, by the row before the step, and the row that is lent, before and after the pass: it says true exactly where every limit is kept
+-- what a pass over all limits promises, by the row before the step, and the row that is lent, before and after the pass: it says true exactly where every limit is kept, and every movement is in proportion
 pub record RowGot (step : Step) (previous before : List ℕ) (result : Bool) (row : List ℕ) : Type 0 where
-  pub kept : (result ≡ true) ↔ LimitsKept step
+  pub kept : (result ≡ true) ↔ (LimitsKept step × InProportion step step.counts.movements)
   pub made : result ≡ true → Fits step.counts step.plan_line.now step.movements.now previous before
       → row ≡ next_row step.counts step.plan_line.now step.movements.now previous ++ drop (2 * step.counts.links) before
   pub alone : RowAlone step.counts before row

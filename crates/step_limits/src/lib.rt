@@ -1,11 +1,11 @@
 // Rules 15 and 25 to 27 of the plan check: the limits of the volumes of a step's `P` line, admitted, let out and moved. The pass over
-// them forms the row after the step.
+// them forms the row after the step, and tests rule 16 by proportions, without a sum.
 #![tactic(auto)]
 
-ghost use Rattle.std.specs.Prelude.{◌≡◌, ◌*◌, ◌<◌, ◌≤◌, leb, length, true};
+ghost use Rattle.std.specs.Prelude.{◌≡◌, ◌*◌, ◌-◌, ◌<◌, ◌≤◌, leb, length, true};
 ghost use Rattle.network_tables.specs.Fields.{row_size};
 ghost use Rattle.step_rows.specs.Rows.{RowAlone};
-ghost use Rattle.step_limits.specs.Limits.{limit_rule_number, admits_offer, lets_out_rate, is_open_in, moves_rate, moves_open, limit_items, limit_rule_holds, LinkLimitsKept, MovementLimitsKept, LinksPassed, MovementsPassed, RowGot};
+ghost use Rattle.step_limits.specs.Limits.{limit_rule_number, admits_offer, lets_out_rate, is_open_in, moves_rate, moves_open, in_proportion, limit_items, limit_rule_holds, LinkLimitsKept, MovementLimitsKept, InProportion, LinksPassed, MovementsPassed, RowGot};
 ghost use Rattle.base_laws.specs.Test.{◌and◌};
 
 use network_tables::{Counts, admitted, let_out, moved};
@@ -131,6 +131,26 @@ fn moves_within(step: &Step, j: usize) -> bool
             && is_open(step, step.from_link(j))
 }
 
+// Whether movement j is to its share as the movement before it, where both leave one link. The shares from a link sum to a whole, so that all movements are in
+// proportion just where each keeps rule 16. The products fit 32 bits, since both volumes are within their rates.
+fn in_proportion(step: &Step, j: usize) -> bool
+    requires item { j < step.now.counts.movements }
+    requires within { (moves_rate step.now j ≡ true) × (moves_rate step.now (j - 1) ≡ true) }
+    ensures { result ≡ in_proportion step.now j }
+{
+    if j == 0 {
+        return true;
+    }
+    let movement = &step.movements[j];
+    let before = &step.movements[j - 1];
+    if movement.from != before.from {
+        return true;
+    }
+    let volume = moved(step.plan_line, step.counts, j);
+    let volume_before = moved(step.plan_line, step.counts, j - 1);
+    volume * before.share == volume_before * movement.share
+}
+
 // Whether all links keep 15 and 25. The row is begun with each that does.
 fn links_within_limits(step: &Step, previous: &[u32], row: &mut [u32]) -> bool
     requires { (2 * step.now.counts.links ≤ length previous.now) × (length row.old ≡ row_size) }
@@ -147,23 +167,29 @@ fn links_within_limits(step: &Step, previous: &[u32], row: &mut [u32]) -> bool
     true
 }
 
-// Whether all movements keep 26 and 27. Each that does is added to the row.
+// Whether all movements keep 26 and 27, and are in proportion. Each that does is added to the row. Most movements are 0, as are those before them; such a one
+// keeps all, and adds nothing.
 fn movements_within_limits(step: &Step, row: &mut [u32]) -> bool
     requires { length row.old ≡ row_size }
-    ensures complete { MovementLimitsKept step.now step.now.counts.movements → result ≡ true }
     ensures passed { result ≡ true → MovementsPassed step.now row.old step.now.counts.movements row.new }
+    ensures complete { MovementLimitsKept step.now step.now.counts.movements → InProportion step.now step.now.counts.movements → result ≡ true }
     ensures alone { RowAlone step.now.counts row.old row.new }
 {
+    let mut before: u32 = 0;
     for (j, movement) in step.movements.iter().enumerate() {
-        if !moves_within(step, j) {
-            return false;
+        let volume = moved(step.plan_line, step.counts, j);
+        if volume != 0 || before != 0 {
+            if !moves_within(step, j) || !in_proportion(step, j) {
+                return false;
+            }
+            step_rows::add_movement(movement, volume, row);
         }
-        step_rows::add_movement(movement, moved(step.plan_line, step.counts, j), row);
+        before = volume;
     }
     true
 }
 
-// Whether all limits are kept, by one pass over the links and one over the movements, which form the row after the step meanwhile: with the row formed apart, by
+// Whether all limits are kept, and all movements are in proportion, by one pass over the links and one over the movements, which form the row after the step meanwhile: with the row formed apart, by
 // `step_rows::next_row`, the largest plan took 6 % more instructions.
 pub fn row_within_limits(step: &Step, previous: &[u32], row: &mut [u32]) -> bool
     requires { (2 * step.now.counts.links ≤ length previous.now) × (length row.old ≡ row_size) }

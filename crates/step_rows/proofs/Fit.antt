@@ -1,28 +1,31 @@
 -- The tables of a step fit each other, where they hold what the texts say.
-use Rattle.base_laws.proofs.Kit.{ℕ, suc, ◌+◌, ◌*◌, ◌≤◌, ◌<◌, ◌≡◌, sym, ◌∙◌, List, le_trans, leb-true, arith, length, get_or}
+use Rattle.base_laws.proofs.Kit.{ℕ, suc, ◌+◌, ◌*◌, ◌≤◌, ◌<◌, ◌≡◌, sym, ap₂, ◌∙◌, eqb, List, le_trans, leb-true, arith, length, get_or}
 use Rattle.base_search.specs.Checks.{Hold}
 use Rattle.text_reader.specs.Lines.{Line}
+use Rattle.base_laws.specs.Sum.{only}
 use Rattle.base_laws.specs.Test.{within}
+use Rattle.base_laws.proofs.Sums.{sum-ext}
 use Rattle.base_laws.proofs.Tests.{and_right}
 use Rattle.model.specs.declared.Signal.{Signal}
-use Rattle.model.specs.Network.{link_count, signal_count, step_count, on_timeline, signal}
+use Rattle.model.specs.Network.{link_count, signal_count, movement_count, step_count, on_timeline, signal, from_link}
 use Rattle.model.specs.Flows.{shown_in, shown_mask}
 use Rattle.model.specs.Rules.{valid_phases}
 use Rattle.model.specs.Table.{network_checks}
 use Rattle.model.proofs.Phases.{phase-of-le}
 use Rattle.model.proofs.Accepted.{ValidNetwork, valid-network}
 use Rattle.model.proofs.Limits.{link-limits, movement-limits, step-limits}
+use Rattle.model.proofs.Shares.{from-rises, some-share, whole-share}
 use Rattle.model.proofs.Times.{arrival-step-lt, on-timeline-mono}
 use Rattle.network_tables.specs.declared.Counts.{Counts}
 use Rattle.network_tables.specs.declared.Link.{Link}
 use Rattle.network_tables.specs.declared.Movement.{Movement}
 use Rattle.network_tables.specs.Tables.{CountsHold, LinkTable, MovementTable, TimeTable, PlanNumbers}
-use Rattle.network_tables.proofs.Tables.{exit-rate-at, signal-of-at, rate-at}
+use Rattle.network_tables.proofs.Tables.{exit-rate-at, signal-of-at, from-link-at, rate-at, share-at}
 use Rattle.step_arrivals.proofs.Boundaries.{times-rise}
 use Rattle.step_past.specs.declared.Arrival.{Arrival}
 use Rattle.step_past.specs.Curves.{ArrivalTable}
 use Rattle.step_signals.specs.Step.{ShownTable, AskedTable, SignalsAt}
-use Rattle.step_rows.specs.Fit.{StepFit}
+use Rattle.step_rows.specs.Fit.{Shared, StepFit}
 use Rattle.step_rows.specs.Waiting.{StepOffers}
 use Rattle.step_rows.proofs.Texts.{movements-named}
 
@@ -45,12 +48,25 @@ module _ {network : List Line} {plan : List Line} {n : ℕ} {counts : Counts} {l
   unfolding on_timeline
   timeline-end = omega (arith, counted.past)
 
+  movements-shared : Shared counts movements
+  movements-shared =
+      record {
+        rising = λ j l. omega (arith, from-link-at movement-table j (omega (arith, counted.movements)), from-link-at movement-table (suc j) (omega (arith, counted.movements)), from-rises network valid j (omega (arith, counted.movements)));
+        some-share = λ j l. omega (arith, share-at movement-table j (omega (arith, counted.movements)), some-share network valid j (omega (arith, counted.movements)));
+        share-limit = λ j l. omega (arith, share-at movement-table j (omega (arith, counted.movements)), movement-limits network valid j (omega (arith, counted.movements)));
+        whole = λ j l.
+            let h : j < movement_count network = omega (arith, counted.movements) in
+            rw (counted.movements, from-link-at movement-table j h)
+            (sum-ext (movement_count network) _ _ (λ k u. ap₂ (λ t x. only (eqb t (from_link network j)) x) (from-link-at movement-table k u) (share-at movement-table k u)) ∙ whole-share network valid j h);
+      }
+
   pub step-fit : {ledger : List ℕ} → 2 * suc n * link_count network ≤ length ledger → StepFit counts links movements times signals line step phases asked ledger arrivals n
   step-fit room =
       record {
         few = counted.few;
         links-size = link-table.size ∙ sym counted.links;
         named = movements-named counted movement-table valid;
+        shared = movements-shared;
         signal-tables = record {
           few = counted.few.signals;
           size = signals-at.size;

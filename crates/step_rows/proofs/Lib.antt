@@ -1,6 +1,7 @@
 pub mod Lists
 pub mod Sums
 pub mod Turns
+pub mod Shares
 pub mod Scatter
 pub mod Next
 pub mod Ledger

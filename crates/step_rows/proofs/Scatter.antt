@@ -44,6 +44,20 @@ module _ (counts : Counts) (line : List ℕ) (movements : List Movement) (side i
   unfolding part
   moved_up h e = omega (arith, moved-yes e, sum_more part (j + 1) counts.movements (omega arith))
 
+-- one movement more that is 0: it adds nothing
+pub nothing-added : {counts : Counts} {line : List ℕ} {movements : List Movement} {row₀ : List ℕ} {j : ℕ} {row : List ℕ} → Added counts line movements row₀ j row → moved_in counts line j ≡ 0
+    → Added counts line movements row₀ (j + 1) row
+nothing-added {counts} {line} {movements} {j = j} was none =
+    record {
+      entered = λ i l. omega (arith, was.entered i l, nothing-more 1 i);
+      left = λ i l. omega (arith, was.left i l, nothing-more 0 i);
+      rest = was.rest;
+      size = was.size;
+    }
+  where
+    nothing-more : (side i : ℕ) → moved_by counts line movements side (j + 1) i ≡ moved_by counts line movements side j i
+    nothing-more side i = ⊎_elim (λ e. moved-yes counts line movements side i j e ∙ ap (λ x. moved_by counts line movements side j i + x) none ∙ add-zero _) (moved-no counts line movements side i j) (same_or_not _ _)
+
 -- movement j, which enters link t and leaves link f, from 0
 module _ {counts : Counts} {line : List ℕ} {movements : List Movement} {row₀ : List ℕ} {j : ℕ} {row : List ℕ} (room : Room counts line movements row₀) (less : j < counts.movements)
     (was : Added counts line movements row₀ j row) {volume : ℕ} (is : volume ≡ moved_in counts line j) where

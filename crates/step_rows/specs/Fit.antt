@@ -1,25 +1,34 @@
 -- What is known of the tables by which a step is judged.
-use Rattle.std.specs.Prelude.{ℕ, ◌+◌, ◌*◌, ◌≤◌, ◌<◌, ◌≡◌, List, length}
+use Rattle.std.specs.Prelude.{ℕ, suc, ◌+◌, ◌*◌, ◌≤◌, ◌<◌, ◌≡◌, ◌==◌, List, length}
+use Rattle.base_laws.specs.Sum.{sum, only}
 use Rattle.model.specs.declared.Signal.{Signal}
 use Rattle.model.specs.Network.{max_links, max_steps}
 use Rattle.network_tables.specs.declared.Counts.{Counts}
 use Rattle.network_tables.specs.declared.Link.{Link}
 use Rattle.network_tables.specs.declared.Movement.{Movement}
 use Rattle.network_tables.specs.Places.{Few}
-use Rattle.network_tables.specs.Fields.{step_size, line_size, exit_rate_in, signal_in, rate_in, length_in}
+use Rattle.network_tables.specs.Fields.{step_size, line_size, exit_rate_in, signal_in, link_in, rate_in, share_in, length_in}
 use Rattle.step_arrivals.specs.Arrivals.{Rising}
 use Rattle.step_past.specs.declared.Arrival.{Arrival}
 use Rattle.step_past.specs.Curves.{arrival_at}
 use Rattle.step_signals.specs.Rules.{SignalTables}
 use Rattle.step_rows.specs.Rows.{Named}
 
--- the counts are few, and the tables have their sizes; links name signals, and movements links; rates are limited; the ledger has the rows up to the boundary at
+-- movements stand by the links that they leave, and the shares of those from one link, none of them 0, sum to 1000
+pub record Shared (counts : Counts) (movements : List Movement) : Type 0 where
+  pub rising : (j : ℕ) → suc j < counts.movements → link_in movements 0 j ≤ link_in movements 0 (suc j)
+  pub some-share : (j : ℕ) → j < counts.movements → 1 ≤ share_in movements j
+  pub share-limit : (j : ℕ) → j < counts.movements → share_in movements j ≤ 1000
+  pub whole : (j : ℕ) → j < counts.movements → sum counts.movements (λ k. only (link_in movements 0 k == link_in movements 0 j) (share_in movements k)) ≡ 1000
+
+-- the counts are few, and the tables have their sizes; links name signals, and movements links; rates are limited, and shares whole; the ledger has the rows up to the boundary at
 -- which the step begins; and each travel time before the next boundary ends in a step before that
 pub record StepFit (counts : Counts) (links : List Link) (movements : List Movement) (times : List ℕ) (signals : List Signal)
     (plan_line step_line phases asked ledger : List ℕ) (arrivals : List Arrival) (boundary : ℕ) : Type 0 where
   pub few : Few counts
   pub links-size : length links ≡ counts.links
   pub named : Named counts movements
+  pub shared : Shared counts movements
   pub signal-tables : SignalTables signals counts.signals phases asked (length_in step_line)
   pub line-size : length plan_line ≡ line_size
   pub step-size : length step_line ≡ step_size

@@ -3,7 +3,7 @@
 
 ghost use Rattle.std.specs.Prelude.{◌≡◌, ◌↔◌, ◌+◌, ◌<◌, true};
 ghost use Rattle.network_tables.specs.Fields.{let_out_in, left_in};
-ghost use Rattle.step_sums.specs.Sums.{keeps_share, entered_before, entered_after, leaves_arrived, fits_capacity, sum_rule_number, sum_items, sum_rule_holds, SharesKept, LinkSumsKept, SumsKept, SumRows};
+ghost use Rattle.step_sums.specs.Sums.{keeps_share, entered_before, entered_after, leaves_arrived, fits_capacity, sum_rule_number, sum_items, sum_rule_holds, LinkSumsKept, SumRows};
 
 use network_tables::{Counts, WHOLE_SHARE, entered, entered_at, left, let_out, moved};
 use step_rows::Step;
@@ -120,26 +120,12 @@ impl StepRows<'_> {
         u64::from(entered(self.row, i)) <= capacity + u64::from(left(self.previous, i))
     }
 
-    // Whether all movements keep 16, in one pass over them. By index here and below, since a rule takes an item's
-    // index.
-    fn keeps_shares(&self) -> bool
-        ensures { (result ≡ true) ↔ SharesKept self.now.step.now self.now.step.now.counts.movements }
-    {
-        (0..self.step.counts.movements).all(|j| self.keeps_share(j))
-    }
-
-    // Whether all links keep 17 and 18, in one pass over them.
-    fn keeps_link_sums(&self) -> bool
+    // Whether all links keep 17 and 18, in one pass over them. By index, since a rule takes an item's index. For 16 there is no such pass: `step_limits` tests it by
+    // proportions, without a sum.
+    pub fn keeps_link_sums(&self) -> bool
         ensures { (result ≡ true) ↔ LinkSumsKept self.now.step.now self.now.previous.now self.now.row.now self.now.step.now.counts.links }
     {
         (0..self.step.counts.links).all(|i| self.fits_capacity(i) && self.leaves_arrived(i))
-    }
-
-    // Whether rules 16 to 18 are kept.
-    pub fn keeps_sums(&self) -> bool
-        ensures { (result ≡ true) ↔ SumsKept self.now.step.now self.now.previous.now self.now.row.now }
-    {
-        self.keeps_link_sums() && self.keeps_shares()
     }
 }
 
