@@ -1,7 +1,6 @@
 -- A plan's lines, put one behind another by the table of its numbers.
-use Rattle.base_laws.proofs.Kit.{ℕ, ◌+◌, ◌-◌, ◌≤◌, ◌<◌, ◌≡◌, sym, ◌∙◌, List, [], dec_le, arith, lt-ltb, le-ltb, length, get_or, take, length-take-le, take-length}
+use Rattle.base_laws.proofs.Kit.{ℕ, ◌+◌, ◌-◌, ◌≤◌, ◌<◌, ◌≡◌, sym, ◌∙◌, List, [], arith, lt-ltb, le-ltb, length, get_or, take, length-take-le, take-length}
 use Rattle.text_writer.specs.Records.{record_text}
-use Rattle.model.specs.Network.{max_signals}
 use Rattle.model.specs.Table.{letter_p}
 use Rattle.network_tables.specs.declared.Counts.{Counts}
 use Rattle.network_tables.specs.Places.{plan_width}
@@ -32,16 +31,6 @@ module _ (counts : Counts) (k : ℕ) where
       pub column-moved : counts.links ≤ k - counts.signals - counts.links → 56 + (k - counts.signals - counts.links - counts.links) ≡ column_in counts k
       unfolding column_in
       column-moved m = sym (rw (le-ltb k counts.signals h, le-ltb (k - counts.signals) counts.links l, le-ltb (k - counts.signals - counts.links) counts.links m))
-
--- it is behind the masks where the number is a volume
-pub column-past : (counts : Counts) (k : ℕ) → counts.signals ≤ k → max_signals ≤ column_in counts k
-column-past counts k x = elim (dec_le counts.links (k - counts.signals)) [
-  | no y ↦ omega (arith, column-admitted counts k x (omega arith))
-  | yes y ↦ elim (dec_le counts.links (k - counts.signals - counts.links)) [
-    | no z ↦ omega (arith, column-let-out counts k x y (omega arith))
-    | yes z ↦ omega (arith, column-moved counts k x y z)
-  ]
-]
 
 -- ---- one line
 pub line-all : (row : List ℕ) (counts : Counts) (line : List ℕ) → length line ≡ plan_width counts → ((k : ℕ) → k < length line → get_or line k 0 ≡ get_or row (column_in counts k) 0)

@@ -1,4 +1,4 @@
--- A plan's lines by the program's table: a row for each step, and 0 in the columns that a row does not have.
+-- A plan's lines by the program's table: a row for each step.
 use Rattle.std.specs.Prelude.{ℕ, ◌+◌, ◌*◌, ◌-◌, ◌≤◌, cond, List, [], ltb, length, get_or}
 use Rattle.text_writer.specs.Records.{record_texts}
 use Rattle.base_laws.specs.Indexed.{list}

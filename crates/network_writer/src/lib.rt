@@ -83,7 +83,8 @@ pub const MOVED_AT: usize = MAX_SIGNALS + 2 * MAX_LINKS;
 // The column of number k of a `P` line.
 fn column_at(counts: Counts, k: usize) -> usize
     requires { Few counts × (k < plan_width counts) }
-    ensures { result ≡ column_in counts k }
+    ensures column { result ≡ column_in counts k }
+    ensures inside { result < line_size }
 {
     if k < counts.signals {
         return k;
@@ -99,18 +100,18 @@ fn column_at(counts: Counts, k: usize) -> usize
     MOVED_AT + (j - counts.links)
 }
 
-// Fills a `P` line's numbers by a step's row: 0 where the row does not have the column.
-fn fill_line(row: &[u32], counts: Counts, line: &mut [u32])
+// Fills a `P` line's numbers by a step's row.
+fn fill_line(row: &[u32; LINE_SIZE], counts: Counts, line: &mut [u32])
     requires { Few counts × (length line.old ≡ plan_width counts) }
     ensures { line.new ≡ plan_row row.now counts }
 {
     for (k, number) in line.iter_mut().enumerate() {
-        *number = row.get(column_at(counts, k)).copied().unwrap_or(0);
+        *number = row[column_at(counts, k)];
     }
 }
 
 // Writes a plan's text at the beginning of a buffer: its lines as far as they fit; returns its length.
-fn put_plan<const C: usize>(rows: &[[u32; C]], counts: Counts, out: &mut [u8]) -> usize
+fn put_plan(rows: &[[u32; LINE_SIZE]], counts: Counts, out: &mut [u8]) -> usize
     requires { PlanAsked rows.now counts }
     ensures { PutWhole (plan_lines rows.now counts) out.old out.new result }
 {
@@ -147,8 +148,8 @@ pub fn write_measured<F: Fn(&mut [u8]) -> usize>(
 // Writes a plan's text by a table with a row for each step: refusal 24 where the buffer is too short. Rows and counts
 // are two parameters, not a struct with the fact `PlanAsked` (a row for each step): each caller would make it for this
 // call alone.
-pub fn write_plan<const C: usize>(
-    rows: &[[u32; C]],
+pub fn write_plan(
+    rows: &[[u32; LINE_SIZE]],
     counts: Counts,
     out: &mut [u8],
 ) -> Result<usize, Refusal>

@@ -1,5 +1,5 @@
 -- Where the tables hold a network's and a sheet's numbers, what is judged and written by them is what the request says.
-use Rattle.base_laws.proofs.Kit.{ℕ, zero, suc, ◌+◌, ◌*◌, ◌-◌, ◌%◌, ◌^◌, ◌≤◌, ◌<◌, ◌≡◌, refl, sym, ap, ap₂, ◌∙◌, cond, not, List, [], add-one, dec_lt, arith, lt-ltb, le-ltb, leb, ltb, eqb, length, take, drop, length-take-le, get_or-take, length-drop, replicate, length-replicate, get_or, get_or-drop, List·getD-eq-default}
+use Rattle.base_laws.proofs.Kit.{ℕ, zero, suc, ◌+◌, ◌*◌, ◌-◌, ◌%◌, ◌^◌, ◌≤◌, ◌<◌, ◌≡◌, refl, sym, ap, ap₂, ◌∙◌, cond, not, List, add-one, dec_lt, arith, le-ltb, leb, ltb, eqb, length, take, drop, length-take-le, get_or-take, length-drop, replicate, length-replicate, get_or, get_or-drop}
 use Rattle.base_search.specs.declared.Refusal.{Refusal}
 use Rattle.base_search.specs.Checks.{check, each, or_else, checked, verdict, Hold, Verdict}
 use Rattle.base_search.proofs.Laws.{first-same, or-else-passes, or-else-refused, hold-of-passes}
@@ -28,8 +28,6 @@ use Rattle.network_tables.specs.Tables.{TramTable}
 use Rattle.network_trams.specs.Claims.{LoadAsked}
 use Rattle.network_trams.proofs.Ready.{trams-ready}
 use Rattle.network.specs.Loading.{TablesLoaded}
-use Rattle.network_writer.specs.Plan.{column_in, plan_row, plan_lines, PlanAsked}
-use Rattle.network_writer.proofs.Plan.{column-mask, column-past}
 use Rattle.sheet_lines.specs.Sheet.{phases_of, sheet_checks}
 use Rattle.sheet_lines.specs.Reading.{line_in, number_in, SheetAsked, SheetRead}
 use Rattle.sheet_lines.proofs.Network.{signals-there, signal-there, sheet-asked, sheet-told, sheet-number}
@@ -43,6 +41,7 @@ use Rattle.model_sheet.proofs.Checks.{two-phases, duration-some, offset-short}
 use Rattle.model_sheet.proofs.Promises.{write-promises}
 use Rattle.step_arrivals.specs.Arrivals.{seconds_in}
 use Rattle.sheet_writer.specs.Tables.{CycleLine, CycleFits, time_in, TimesAsked, fits_in, has_no_tram_in, can_write_in, boundary_checks_in, phase_in, cycle_text}
+use Rattle.sheet_writer.specs.Lines.{mask_row, mask_lines, LinesAsked}
 use Rattle.sheet_writer.specs.Stages.{MasksAsked, MasksGot, SheetWritten}
 use Rattle.std.specs.List.{slice_range}
 use Rattle.std.specs.Prelude.{Result, Ok, Err}
@@ -76,18 +75,12 @@ only_same k n x y h = elim (dec_lt k n) [ yes l ↦ ap (only (ltb k n)) (h l) | 
 -- ---- by the tables
 module _ {trams : List Tram} {signals : List Signal} {table : List (List ℕ)} {times : List ℕ} {counts : Counts} {masks : List (List ℕ)} {v : Verdict} (few : Few counts) (count : length signals ≡ counts.signals)
     (got : MasksGot trams signals table times counts.steps v masks) where
-  text-held : v ≡ Ok tt → plan_lines masks counts ≡ cycle_text signals table times counts
-  unfolding plan_lines cycle_text plan_row
-  text-held e = records-same letter_p _ _ counts.steps (λ n l. list_same (plan_width counts) _ _ (λ k u. number n k l))
-    where
-      number : (n k : ℕ) → n < counts.steps → get_or (get_or masks n []) (column_in counts k) 0 ≡ only (ltb k counts.signals) (2 ^ (phase_in signals table times n k - 1))
-      number n k l = elim (dec_lt k counts.signals) [
-        | yes h ↦ rw (← column-mask counts k h, lt-ltb k counts.signals h) ((got.held e).shows n k (omega (arith, got.size)) (omega (arith, count)))
-        | no h ↦ List·getD-eq-default (get_or masks n []) 0 (omega (arith, got.widths n l, column-past counts k (omega arith))) ∙ rw (le-ltb k counts.signals (omega arith)) refl
-      ]
+  text-held : v ≡ Ok tt → mask_lines masks counts ≡ cycle_text signals table times counts
+  unfolding mask_lines cycle_text mask_row
+  text-held e = records-same letter_p _ _ counts.steps (λ n l. list_same (plan_width counts) _ _ (λ k u. only_same k counts.signals _ _ (λ h. (got.held e).shows n k (omega (arith, got.size)) (omega (arith, count)))))
 
-  pub plan-asked : PlanAsked masks counts
-  plan-asked = record { few = few; steps = omega (arith, got.size) }
+  pub lines-asked : LinesAsked masks counts
+  lines-asked = record { few = few; steps = omega (arith, got.size); widths = got.widths }
 
 -- ---- on a network that has passed
 module _ (tables : NetworkTables) {signals : List Signal} (loaded : TablesLoaded tables signals) where
@@ -247,10 +240,10 @@ module _ (tables : NetworkTables) {signals : List Signal} (loaded : TablesLoaded
           unfolding or_else text_answer bytes_after
           masks-stopped q = record { told = rw (passes, sym boundary-same ∙ sym got.told ∙ q) (record { answered = refl; holds = refl }) }
 
-          pub plan-wanted : PlanAsked masks counts
-          plan-wanted = plan-asked loaded.counted.few there-is got
+          pub plan-wanted : LinesAsked masks counts
+          plan-wanted = lines-asked loaded.counted.few there-is got
 
-          pub sheet-written : w ≡ Ok tt → {old new : List ℕ} {answer : (Result ℕ Refusal)} → Told (plan_lines masks counts) (room_verdict 24 (plan_lines masks counts) old) old answer new → SheetWritten network sheet old answer new
+          pub sheet-written : w ≡ Ok tt → {old new : List ℕ} {answer : (Result ℕ Refusal)} → Told (mask_lines masks counts) (room_verdict 24 (mask_lines masks counts) old) old answer new → SheetWritten network sheet old answer new
           unfolding or_else
           sheet-written p told =
               let same = text-held loaded.counted.few there-is got p ∙ text_same in

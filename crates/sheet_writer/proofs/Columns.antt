@@ -1,6 +1,6 @@
 -- The masks of one signal, step by step, and those of all signals: one law for each way through a turn.
 use Rattle.base_laws.proofs.Kit.{ℕ, zero, suc, ◌+◌, ◌-◌, ◌^◌, ◌≤◌, ◌<◌, ◌≡◌, refl, sym, ap, ap₂, ◌∙◌, Bool, true, false, not, ◌&&◌, and-true, ◌⊎◌, inl, inr, ◌≢◌, List}
-use Rattle.base_laws.proofs.Kit.{[], ◌∷◌, ℕ_discrete, add-one, eq-or-lt_of_le, arith, le-leb, lt-leb, eqb, length, take, take-suc, take_all, get_or, set, set-get_or, length-set, get_or-set_same, get_or-set_other}
+use Rattle.base_laws.proofs.Kit.{[], ◌∷◌, ℕ_discrete, add-one, eq-or-lt_of_le, arith, pow-le-pow_right, le-leb, lt-leb, eqb, length, take, take-suc, take_all, get_or, set, set-get_or, length-set, get_or-set_same, get_or-set_other}
 use Rattle.base_search.specs.declared.Refusal.{Refusal}
 use Rattle.base_search.specs.Checks.{refusal, Checks, check, checked, verdict}
 use Rattle.base_laws.specs.Test.{◌and◌, every}
@@ -29,6 +29,12 @@ pub record ColumnTo (value : ℕ → ℕ) (P : ℕ) (times : List ℕ) (r : ℕ)
   pub column : Column value P times r n before masks
   pub widths : (m : ℕ) → m < length before → length (get_or masks m []) ≡ max_signals
   pub at : RunAt value P (time_in times n) run
+
+-- a mask fits a byte
+pub mask-small : {phase mask : ℕ} → phase ≤ 8 → mask ≡ 2 ^ (phase - 1) → mask < 256
+mask-small {phase} few is =
+    let most : 2 ^ (phase - 1) ≤ 2 ^ 7 = pow-le-pow_right {n = 2} (omega arith) (let p : phase - 1 ≤ 7 = omega arith in p) in
+    omega (arith, is, most)
 
 module _ {line : List ℕ} {phases : ℕ} (cycle : CycleFits line phases) {times : List ℕ} {r : ℕ} {before : List (List ℕ)} (asked : ColumnAsked times r before) where
   abbrev value : ℕ → ℕ

@@ -1,3 +1,4 @@
 pub mod Runs
 pub mod Columns
+pub mod Lines
 pub mod Call

@@ -10,12 +10,19 @@ ghost use Rattle.sheet_lines.specs.Reading.{number_in};
 ghost use Rattle.model_sheet.specs.Promises.{WritePromises};
 ghost use Rattle.sheet_writer.specs.Tables.{CycleFits, RunAt, NextAsked, NextRun, ColumnAsked, ColumnGot, has_no_tram_in};
 ghost use Rattle.sheet_writer.specs.Stages.{MasksAsked, MasksGot, SheetWritten};
+ghost use Rattle.sheet_writer.specs.Lines.{FrontSet, mask_lines, LinesAsked};
+ghost use Rattle.model_text.specs.Answers.{room_verdict, Told};
+ghost use Rattle.network_writer.specs.Put.{PutWhole};
 
 use base_search::{Reason, Refusal};
 use model::Signal;
 use network::Room;
-use network_tables::{MAX_SIGNALS, MAX_STEPS, MAX_TRAMS, NetworkTables, Tram};
+use network_tables::{Counts, LINE_SIZE, MAX_SIGNALS, MAX_STEPS, MAX_TRAMS, NetworkTables, Tram};
+use network_writer::Output;
 use sheet_lines::{SHEET_FIELDS, SheetLine};
+
+// The masks of a step, a byte for each signal, which has at most eight phases: as numbers of a line the masks of all steps took 2,880 bytes more of stack.
+pub type Masks = [u8; MAX_SIGNALS];
 
 // The run of a cycle that shows: its phase, and the seconds for which it still shows.
 #[derive(Clone, Copy)]
@@ -73,7 +80,7 @@ impl Cycle<'_> {
     }
 
     // Fills the column of masks of signal `r`, whose cycle it is; none if a run ends inside a step (refusal 35).
-    fn fill_column(&self, times: &[u32], r: usize, masks: &mut [[u32; MAX_SIGNALS]]) -> Option<()>
+    fn fill_column(&self, times: &[u32], r: usize, masks: &mut [Masks]) -> Option<()>
         requires { ColumnAsked times.now r masks.old }
         ensures { ColumnGot (number_in self.now.line.now) self.now.phases times.now r masks.old result masks.new }
     {
@@ -83,7 +90,8 @@ impl Cycle<'_> {
             if run.remaining < seconds {
                 return None;
             }
-            shown[r] = step_signals::mask_of(run.phase);
+            // At most eight phases: the cast loses nothing.
+            shown[r] = step_signals::mask_of(run.phase) as u8;
             run = self.next_run(run, seconds);
         }
         Some(())
@@ -106,7 +114,7 @@ fn fill_masks(
     signals: &[Signal],
     table: &[SheetLine],
     times: &[u32],
-    masks: &mut [[u32; MAX_SIGNALS]],
+    masks: &mut [Masks],
 ) -> Result<(), Refusal>
     requires { MasksAsked signals.now table.now times.now masks.old }
     ensures { MasksGot trams.now signals.now table.now times.now (length masks.old) result masks.new }
@@ -125,6 +133,44 @@ fn fill_masks(
     Ok(())
 }
 
+// Sets the first numbers of a line to masks.
+fn set_masks(shown: &[u8], line: &mut [u32])
+    requires { length shown.now ≤ length line.old }
+    ensures { FrontSet shown.now line.old (length shown.now) line.new }
+{
+    for (r, mask) in shown.iter().enumerate() {
+        line[r] = u32::from(*mask);
+    }
+}
+
+// Puts a plan's text at the beginning of a buffer: its lines as far as they fit; returns its length. From line to line only the masks of a line change: its
+// volumes are 0.
+fn put_masks(masks: &[Masks], counts: Counts, out: &mut [u8]) -> usize
+    requires { LinesAsked masks.now counts }
+    ensures { PutWhole (mask_lines masks.now counts) out.old out.new result }
+{
+    let mut output = Output { out, at: 0 };
+    let mut table = [0u32; LINE_SIZE];
+    let line = &mut table[..counts.plan_width()];
+    for shown in &masks[..counts.steps] {
+        set_masks(&shown[..counts.signals], line);
+        output.put_line(b'P', line);
+    }
+    output.at
+}
+
+// Writes the text of a plan by the masks of all steps: refusal 24 where the buffer is too short.
+fn write_masks(masks: &[Masks], counts: Counts, out: &mut [u8]) -> Result<usize, Refusal>
+    requires { LinesAsked masks.now counts }
+    ensures { Told (mask_lines masks.now counts) (room_verdict 24 (mask_lines masks.now counts) out.old) out.old result out.new }
+{
+    let put = |out: &mut [u8]|
+        requires { LinesAsked masks.now counts }
+        ensures { PutWhole (mask_lines masks.entry.now counts) out.old out.new result }
+    { put_masks(masks, counts, out) };
+    network_writer::write_measured(Reason::PlanRoom, out, put)
+}
+
 // Writes the plan of a sheet on a network that has passed, whose `T` lines are read again: refusals 33, 35 and 24.
 fn write_on_network(
     tables: &NetworkTables,
@@ -141,11 +187,11 @@ fn write_on_network(
     sheet_lines::read_sheet(sheet, signals, true, &mut table)?;
     let mut room = [Tram::default(); MAX_TRAMS];
     let trams = network_trams::load_trams(tables, &mut room);
-    let mut rows = [[0u32; MAX_SIGNALS]; MAX_STEPS];
+    let mut rows = [[0u8; MAX_SIGNALS]; MAX_STEPS];
     let masks = &mut rows[..counts.steps];
     let times = &tables.times[counts.past..];
     fill_masks(trams, signals, &table, times, masks)?;
-    network_writer::write_plan(masks, counts, out)
+    write_masks(masks, counts, out)
 }
 
 // The plan text of a sheet with offsets: refusals 1 to 6, 28 and 30, then 33, 35 and 24.

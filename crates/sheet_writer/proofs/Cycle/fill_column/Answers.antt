@@ -1,5 +1,6 @@
 -- `sheet_writer::Cycle::fill_column` meets its contract: one law for each way through a turn.
-use Rattle.sheet_writer.proofs.Columns.{column-none, phase-few, step-within, column-broken, column-asked, column-more, column-all}
+use Rattle.std.proofs.Common.{rules}
+use Rattle.sheet_writer.proofs.Columns.{column-none, phase-few, mask-small, step-within, column-broken, column-asked, column-more, column-all}
 use Rattle.sheet_writer.proofs.Cycle.fill_column.Goals as goal
 
 pub loop-n-init : goal.loop-n-init
@@ -23,3 +24,8 @@ loop-n-preserved c =
 
 pub returns : goal.returns
 returns c = column-all c.args.self.now.fits c.requires c.loop-n.invariant c.loop-n-test.false
+
+pub overflow_cast-shown : goal.overflow_cast-shown
+overflow_cast-shown c =
+    let small = mask-small (phase-few c.args.self.now.fits c.requires c.loop-n.invariant c.loop-n-test.true) c.mask_of.ensures in
+    search rules
