@@ -11,6 +11,7 @@ generate.py plan NETWORK SEED
 Volumes are in thousandths of a vehicle, times in seconds. Signals, links and phases are counted from 0 here.
 """
 
+import bisect
 import math
 import os
 import random
@@ -406,11 +407,130 @@ def widest_network():
     return Network(signals, links, movements, [Step(60, [600000] * 24) for _ in range(120)])
 
 
-def write_texts(folder, network, plan):
+@dataclass
+class Shape:
+    """What the search for the greatest work turns: an input of the greatest sizes, whose signals change at every step and
+    whose every number is padded to ten digits."""
+
+    past_length: int  # of each past step
+    past: int
+    lengths: list  # of the plan's steps
+    travel_times: list
+    trams: bool = False  # two at each signal, in every step
+    ended: bool = True  # the plan's last line
+    long: bool = False  # volumes as long as the limits of a past allow
+
+
+# Inputs that a search found, or that led it there. In `solo` each link leaves the past in a step of its own, in `pairs`
+# two do together, in `alternating` every other link is a second behind; in `full` there is no past.
+FAMILIES = {
+    "solo": Shape(1, 96, [60] * 24, [96 + 60 * i for i in range(24)]),
+    "pairs": Shape(1, 98, [10] * 22, [98 + 10 * (i // 2) for i in range(24)]),
+    "alternating": Shape(1, 118, [59] * 2, [119 + i % 2 for i in range(24)]),
+    "one by one": Shape(1, 91, [60] * 29, [121 + 60 * i for i in range(24)], ended=False),
+    "long past": Shape(1, 100, [60] * 20, [100 + 60 * i for i in range(24)], long=True),
+    "shortest past": Shape(1, 60, [60] * 60, [60 + 60 * i for i in range(24)]),
+    "longest past": Shape(1, 118, [60] * 2, [118 + i for i in range(24)]),
+    "full": Shape(1, 0, [60] * 120, [1 + i % 2 for i in range(24)]),
+    "full, no line feed at the end": Shape(1, 0, [60] * 120, [1 + i % 2 for i in range(24)], ended=False),
+}
+
+
+def folder_name(name):
+    return "found-" + name.replace(",", "").replace(" ", "-")
+
+
+def shaped_network(shape):
+    """The links are always open and never full. In the past as much left each link as entered it, or nothing."""
+    signals = [Signal(1, 3600, 0, 1, 1, [1] * 8, [3600] * 8) for _ in range(8)]
+    standing, entered, left = (1_000_000_000, 8_000_000, 8_000_000) if shape.long else (0, 1000, 0)
+    times = [min(time, 3600) for time in shape.travel_times]
+    links = [Link(2_000_000_000, time, 10_000, 1 + i % 8, 255, standing) for i, time in enumerate(times)]
+    movements = [Movement(i, (i + k) % 24, 10_000, 250) for i in range(16) for k in (1, 2, 3, 4)]
+    movements.sort(key=lambda movement: (movement.origin, movement.destination))
+    past = [PastStep(shape.past_length, [entered] * 24, [left] * 24) for _ in range(shape.past)]
+    steps = [Step(length, [600_000] * 24) for length in shape.lengths]
+    network = Network(signals, links, movements, steps, past=past)
+    if shape.trams:
+        network.trams = [Tram(r, 1, 0, len(steps) - 1) for r in range(8)]
+    return network
+
+
+def arrived(times, rows, i, time):
+    """What has arrived at the end of link i, rounded down: of what had entered it by each boundary, the part by a time."""
+    if time <= 0:
+        return rows[0][i]
+    k = min(bisect.bisect_right(times, time), len(rows) - 1) - 1
+    return rows[k][i] + (rows[k + 1][i] - rows[k][i]) * (time - times[k]) // (times[k + 1] - times[k])
+
+
+def past_rows(network):
+    """What had entered and left each link by each boundary of the past."""
+    entered, left = [[link.standing for link in network.links]], [[0] * len(network.links)]
+    for step in network.past:
+        entered.append([volume + new for volume, new in zip(entered[-1], step.entered)])
+        left.append([volume + new for volume, new in zip(left[-1], step.left)])
+    return entered, left
+
+
+def volumes_moved(network, n, entered, left):
+    """Half of what has arrived on each link by the start of step n, on each of its four movements as far as rates allow."""
+    start, length = network.times()[len(network.past) + n], network.steps[n].length
+    queues = []
+    for i, link in enumerate(network.links):
+        time = min(start, start + length - link.travel_time)
+        queues.append(arrived(network.times(), entered, i, time) - left[-1][i])
+    return [min(queues[m.origin] // 8, m.rate * length, 100_000) for m in network.movements]
+
+
+def volumes_let_out(network, n, entered, left):
+    """All that has arrived on each link by the end of step n and has not left it, as far as its rate allows."""
+    end, length = network.times()[len(network.past) + n + 1], network.steps[n].length
+    volumes = []
+    for i, link in enumerate(network.links):
+        queue = arrived(network.times(), entered, i, end - link.travel_time) - left[i]
+        volumes.append(max(0, min(queue, link.exit_rate * length)))
+    return volumes
+
+
+def shaped_plan(network):
+    """Each signal shows the phase after at each step, or what trams ask; all who come are admitted, and whatever can move
+    does."""
+    entered, left = past_rows(network)
+    plan = Plan([])
+    for n, step in enumerate(network.steps):
+        moved = volumes_moved(network, n, entered, left)
+        entered.append([volume + new for volume, new in zip(entered[-1], step.demand)])
+        left.append(left[-1][:])
+        for movement, volume in zip(network.movements, moved):
+            entered[-1][movement.destination] += volume
+            left[-1][movement.origin] += volume
+        let_out = volumes_let_out(network, n, entered, left[-1])
+        left[-1] = [volume + new for volume, new in zip(left[-1], let_out)]
+        shown = 1 if network.trams else (n + 1) % 8
+        plan.steps.append(PlanStep([1 << shown] * 8, step.demand, let_out, moved))
+    return plan
+
+
+def write_shape(folder, shape):
+    """The network, the plan, its lines but the last, to carry on from there, and a sheet that the plan keeps."""
+    network = shaped_network(shape)
+    lines = padded(plan_text(shaped_plan(network))).splitlines(True)
+    plan = "".join(lines)
+    write_texts(folder, padded(network_text(network)), plan if shape.ended else plan[:-1])
+    write_text(folder, "carried", "".join(lines[:-1]))
+    write_text(folder, "sheet", padded(record("F", [shape.lengths[0]] * 8) * 8))
+
+
+def write_text(folder, name, text):
     os.makedirs(folder, exist_ok=True)
-    for name, text in [("network.tsv", network), ("plan.tsv", plan)]:
-        with open(os.path.join(folder, name), "w", newline="\n") as file:
-            file.write(text)
+    with open(os.path.join(folder, f"{name}.tsv"), "w", newline="\n") as file:
+        file.write(text)
+
+
+def write_texts(folder, network, plan):
+    write_text(folder, "network", network)
+    write_text(folder, "plan", plan)
 
 
 def write_folder(folder, network, plan):
