@@ -1,9 +1,9 @@
 //! The verdict on a plan as JSON, for programs: `check --json` and `batch` write it.
 
 use crate::json::{object, Value};
-use crate::network::Network;
-use crate::words;
 use plancheck::{library_version, Refusal, Totals};
+use workbench_core::network::Network;
+use workbench_core::words;
 
 /// A verdict, with the words of a refusal.
 pub struct Answer {

@@ -5,6 +5,9 @@ use std::fs;
 use std::io::{self, Read};
 use std::path::{Path, PathBuf};
 use std::sync::atomic::{AtomicBool, Ordering};
+use workbench_core::names::Names;
+use workbench_core::network::Network;
+use workbench_core::texts::Texts;
 
 pub const NETWORK: &str = "network.tsv";
 pub const PLAN: &str = "plan.tsv";
@@ -14,12 +17,6 @@ pub const NAMES: &str = "names.tsv";
 pub const INPUT: &str = "-";
 /// The option that names the plan.
 pub const PLAN_OPTION: &str = "--plan";
-
-/// The two texts of a folder.
-pub struct Texts {
-    pub network: Vec<u8>,
-    pub plan: Vec<u8>,
-}
 
 /// The two texts that arguments name, and where they are.
 pub struct Given {
@@ -169,4 +166,23 @@ fn begins_as_plan(path: &Path) -> Result<bool, Problem> {
 pub fn name_of(path: &str) -> &str {
     let name = Path::new(path).file_name().and_then(|name| name.to_str());
     name.unwrap_or(path)
+}
+
+/// The names of a file beside a network, where it is a file; what is wrong with them is reported, and the rest is taken.
+pub fn names_beside(path: &Path, network: &[u8]) -> Names {
+    if path == Path::new(INPUT) {
+        return Names::default();
+    }
+    let path = path.with_file_name(NAMES);
+    let (names, faults) = match (fs::read(&path), Network::read(network)) {
+        (Ok(text), Ok(network)) => Names::of_network(&text, &network),
+        (Err(error), _) if error.kind() != io::ErrorKind::NotFound => {
+            (Names::default(), vec![format!("was not read: {error}")])
+        }
+        _ => (Names::default(), Vec::new()),
+    };
+    for fault in faults {
+        eprintln!("workbench: {} {fault}", path.display());
+    }
+    names
 }

@@ -1,31 +1,10 @@
 //! The engineer's tool over the plan check library. `workbench` alone prints what it can do.
 
 mod answer;
-mod cells;
 mod command;
 mod commands;
-mod faults;
 mod files;
-mod flows;
-mod form;
-mod halves;
 mod json;
-mod judge;
-mod make;
-mod model;
-mod names;
-mod network;
-mod plan;
-mod pointed;
-mod records;
-mod report;
-mod show;
-mod solution;
-mod street;
-mod summary;
-mod wave;
-mod why;
-mod words;
 
 use command::{Ended, Problem};
 use std::io::{self, BufWriter, Write};

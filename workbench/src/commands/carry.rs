@@ -1,13 +1,13 @@
 //! `carry`: the network text from a boundary on, after the plan's first lines have run.
 
 use crate::command::{Command, Ended, Outcome};
-use crate::faults::Fault;
 use crate::files::{read, read_network};
-use crate::network::Network;
-use crate::{form, words};
 use plancheck::{carry_on, Reason, Refusal, Text, MAX_LEDGER_LEN, MAX_NETWORK_TEXT_LEN};
 use std::io::Write;
 use std::path::Path;
+use workbench_core::faults::Fault;
+use workbench_core::network::Network;
+use workbench_core::{form, words};
 
 pub const COMMAND: Command = Command {
     name: "carry",

@@ -1,14 +1,14 @@
 //! `cells`: a run of a corridor in cells.
 
-use crate::cells::over_time;
 use crate::command::{part, Command, Ended, Outcome, Parted};
-use crate::faults::of_corridor;
 use crate::files::{name_of, read, write};
-use crate::report::cells_page;
-use crate::{form, show, words};
 use plancheck::Text;
 use std::io::Write;
 use std::path::Path;
+use workbench_core::cells::over_time;
+use workbench_core::faults::of_corridor;
+use workbench_core::report::cells_page;
+use workbench_core::{form, show, words};
 
 pub const COMMAND: Command = Command {
     name: "cells",

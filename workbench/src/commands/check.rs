@@ -3,11 +3,11 @@
 use crate::answer::Answer;
 use crate::command::{part, Command, Ended, Outcome};
 use crate::files::{read_given, PLAN_OPTION};
-use crate::judge::judge;
-use crate::network::Network;
-use crate::plan::{has_no_volumes, NO_VOLUMES};
-use crate::{show, words};
 use std::io::Write;
+use workbench_core::judge::judge;
+use workbench_core::network::Network;
+use workbench_core::plan::{has_no_volumes, NO_VOLUMES};
+use workbench_core::{show, words};
 
 pub const COMMAND: Command = Command {
     name: "check",

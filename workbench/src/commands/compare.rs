@@ -1,16 +1,17 @@
 //! `compare`: which of two plans is ahead.
 
 use crate::command::{part, Command, Ended, Outcome, Parted};
-use crate::files::{name_of, read, read_network, write, Texts};
-use crate::judge::Run;
-use crate::network::Network;
-use crate::plan::NO_VOLUMES;
-use crate::report::{comparison_page, crossings_of};
-use crate::{show, words};
+use crate::files::{name_of, read, read_network, write};
 use plancheck::{compare_plans, Order, Refused, Text, MAX_LEDGER_LEN};
 use std::cmp::Ordering;
 use std::io::Write;
 use std::path::Path;
+use workbench_core::judge::Run;
+use workbench_core::network::Network;
+use workbench_core::plan::NO_VOLUMES;
+use workbench_core::report::{comparison_page, crossings_of};
+use workbench_core::texts::Texts;
+use workbench_core::{show, words};
 
 pub const COMMAND: Command = Command {
     name: "compare",

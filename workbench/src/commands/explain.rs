@@ -2,11 +2,11 @@
 
 use crate::command::{part, Command, Ended, Outcome, Problem};
 use crate::files::{read_given, PLAN_OPTION};
-use crate::judge::Run;
-use crate::words;
 use plancheck::Reason;
 use std::io::Write;
 use std::path::Path;
+use workbench_core::judge::Run;
+use workbench_core::words;
 
 pub const COMMAND: Command = Command {
     name: "explain",

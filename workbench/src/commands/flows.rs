@@ -2,13 +2,14 @@
 
 use super::sheet::plan_of;
 use crate::command::{part, Command, Ended, Outcome};
-use crate::files::{network_at, read, read_given, write, Texts, PLAN_OPTION};
-use crate::flows::{coarse_links, flows};
-use crate::judge::{judge, Run};
-use crate::{show, words};
+use crate::files::{network_at, read, read_given, write, PLAN_OPTION};
 use plancheck::{NetworkText, PlanText, Refusal};
 use std::io::Write;
 use std::path::Path;
+use workbench_core::flows::{coarse_links, flows};
+use workbench_core::judge::{judge, Run};
+use workbench_core::texts::Texts;
+use workbench_core::{show, words};
 
 pub const COMMAND: Command = Command {
     name: "flows",

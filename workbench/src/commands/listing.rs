@@ -1,13 +1,13 @@
 //! `listing`: a plan text from a solver's listing.
 
 use crate::command::{Command, Ended, Outcome};
-use crate::faults::of_listing;
 use crate::files::{read, read_network};
-use crate::network::Network;
-use crate::words;
 use plancheck::{plan_from_listing, Text, MAX_WRITTEN_PLAN_LEN};
 use std::io::Write;
 use std::path::Path;
+use workbench_core::faults::of_listing;
+use workbench_core::network::Network;
+use workbench_core::words;
 
 pub const COMMAND: Command = Command {
     name: "listing",

@@ -1,14 +1,15 @@
 //! `make`: a seeded avenue with plans that the check accepts.
 
 use crate::command::{part, Command, Ended, Outcome, Parted, Problem};
-use crate::files::{make_folder, read, write, Texts, NETWORK, PLAN};
-use crate::judge::judge;
-use crate::make::{avenue, plan, Chance, MAX_JUNCTIONS};
-use crate::show::counted;
-use crate::{show, words};
+use crate::files::{make_folder, read, write, NETWORK, PLAN};
 use plancheck::{NetworkText, PlanText, MAX_STEPS};
 use std::io::Write;
 use std::path::Path;
+use workbench_core::judge::judge;
+use workbench_core::make::{avenue, plan, Chance, MAX_JUNCTIONS};
+use workbench_core::show::counted;
+use workbench_core::texts::Texts;
+use workbench_core::{show, words};
 
 pub const COMMAND: Command = Command {
     name: "make",

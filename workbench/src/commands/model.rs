@@ -1,14 +1,15 @@
 //! `model`: the check's rules for a solver.
 
 use crate::command::{part, Command, Ended, Outcome};
-use crate::files::{read, read_network, write, Texts};
-use crate::flows::without_volumes;
-use crate::judge::{judge, Run};
-use crate::model::Model;
-use crate::words;
+use crate::files::{read, read_network, write};
 use plancheck::{NetworkText, PlanText, Refusal, Text};
 use std::io::Write;
 use std::path::Path;
+use workbench_core::flows::without_volumes;
+use workbench_core::judge::{judge, Run};
+use workbench_core::model::Model;
+use workbench_core::texts::Texts;
+use workbench_core::words;
 
 pub const COMMAND: Command = Command {
     name: "model",

@@ -1,14 +1,15 @@
 //! `rank`: many plans on one network, by travel time.
 
 use crate::command::{part, Command, Ended, Outcome, Parted, Problem};
-use crate::files::{network_at, plans_in, read, Found, Texts, NETWORK};
-use crate::judge::judge;
-use crate::plan::{has_no_volumes, NO_VOLUMES};
-use crate::{show, words};
+use crate::files::{network_at, plans_in, read, Found, NETWORK};
 use plancheck::{check_network, Refusal, Totals};
 use std::io::{self, Write};
 use std::path::{Path, PathBuf};
 use std::time::{Duration, Instant};
+use workbench_core::judge::judge;
+use workbench_core::plan::{has_no_volumes, NO_VOLUMES};
+use workbench_core::texts::Texts;
+use workbench_core::{show, words};
 
 pub const COMMAND: Command = Command {
     name: "rank",

@@ -1,10 +1,10 @@
 //! `report`: a plan on one HTML page.
 
 use crate::command::{part, Command, Ended, Outcome};
-use crate::files::{read_given, write, PLAN_OPTION};
-use crate::report::page;
+use crate::files::{names_beside, read_given, write, PLAN_OPTION};
 use std::io::Write;
 use std::path::Path;
+use workbench_core::report::page;
 
 pub const COMMAND: Command = Command {
     name: "report",
@@ -16,7 +16,8 @@ pub const COMMAND: Command = Command {
 fn run(arguments: &[String], out: &mut dyn Write) -> Outcome {
     let parted = part(&COMMAND, arguments, &["-o", PLAN_OPTION], &[])?;
     let given = read_given(&COMMAND, &parted.others, parted.value(PLAN_OPTION))?;
-    let page = page(&given.name(), &given.texts, &given.network);
+    let names = names_beside(&given.network, &given.texts.network);
+    let page = page(&given.name(), &given.texts, &names);
     match parted.value("-o") {
         Some(path) => write(Path::new(path), page.as_bytes())?,
         None => out.write_all(page.as_bytes())?,

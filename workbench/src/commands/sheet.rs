@@ -1,16 +1,17 @@
 //! `sheet`: whether a plan keeps a fixed-time sheet, or a plan for one.
 
 use crate::command::{Command, Ended, Outcome};
-use crate::faults::{of_sheet, off_boundaries, Fault, Faults};
-use crate::files::{read, read_network, Texts};
-use crate::judge::carried;
-use crate::network::Network;
-use crate::plan::{has_no_volumes, NO_VOLUMES};
-use crate::records::{lines, record};
-use crate::{form, show, words};
+use crate::files::{read, read_network};
 use plancheck::{check_sheet, plan_from_sheet, Reason, Refusal, Text, MAX_LEDGER_LEN, MAX_WRITTEN_PLAN_LEN};
 use std::io::Write;
 use std::path::Path;
+use workbench_core::faults::{of_sheet, off_boundaries, Fault, Faults};
+use workbench_core::judge::carried;
+use workbench_core::network::Network;
+use workbench_core::plan::{has_no_volumes, NO_VOLUMES};
+use workbench_core::records::{lines, record};
+use workbench_core::texts::Texts;
+use workbench_core::{form, show, words};
 
 pub const COMMAND: Command = Command {
     name: "sheet",

@@ -1,15 +1,16 @@
 //! `solution`: the plan in what a solver writes.
 
 use crate::command::{part, Command, Ended, Outcome, Problem};
-use crate::files::{read, read_network, write, Texts};
-use crate::judge::judge;
-use crate::model::Model;
-use crate::network::Network;
-use crate::solution::{self, listing, Taken};
-use crate::{show, words};
+use crate::files::{read, read_network, write};
 use plancheck::{NetworkText, PlanText, Text};
 use std::io::Write;
 use std::path::Path;
+use workbench_core::judge::judge;
+use workbench_core::model::Model;
+use workbench_core::network::Network;
+use workbench_core::solution::{self, listing, Taken};
+use workbench_core::texts::Texts;
+use workbench_core::{show, words};
 
 pub const COMMAND: Command = Command {
     name: "solution",

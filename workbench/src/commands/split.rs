@@ -1,14 +1,14 @@
 //! `split`: the networks and plans of two boxes from those of the whole corridor.
 
 use crate::command::{part, Command, Ended, Outcome, Problem};
-use crate::faults::Fault;
 use crate::files::{make_folder, read_given, write, NETWORK, PLAN, PLAN_OPTION};
-use crate::halves::Halves;
-use crate::network::Network;
-use crate::words;
 use plancheck::{split, Reason, Refusal, Text, MAX_LINKS};
 use std::io::Write;
 use std::path::Path;
+use workbench_core::faults::Fault;
+use workbench_core::halves::Halves;
+use workbench_core::network::Network;
+use workbench_core::words;
 
 pub const COMMAND: Command = Command {
     name: "split",

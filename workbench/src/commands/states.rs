@@ -2,10 +2,10 @@
 
 use crate::command::{part, Command, Ended, Outcome};
 use crate::files::{read_given, PLAN_OPTION};
-use crate::judge::states_of;
-use crate::network::Network;
-use crate::words;
 use std::io::Write;
+use workbench_core::judge::states_of;
+use workbench_core::network::Network;
+use workbench_core::words;
 
 pub const COMMAND: Command = Command {
     name: "states",

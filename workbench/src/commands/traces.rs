@@ -2,10 +2,10 @@
 
 use crate::command::{part, Command, Ended, Outcome, Parted, Problem};
 use crate::files::{name_of, read, write};
-use crate::report::traces_page;
-use crate::street::{Stopped, Street};
 use std::io::Write;
 use std::path::Path;
+use workbench_core::report::traces_page;
+use workbench_core::street::{Stopped, Street};
 
 pub const COMMAND: Command = Command {
     name: "traces",

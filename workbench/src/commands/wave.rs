@@ -1,14 +1,13 @@
 //! `wave`: a time-distance diagram along a path of links.
 
 use crate::command::{part, Command, Ended, Outcome, Problem};
-use crate::files::{read_given, write, PLAN_OPTION};
-use crate::judge::Run;
-use crate::names::Names;
-use crate::report::wave_page;
-use crate::wave::{listed, Path as Links};
-use crate::words;
+use crate::files::{names_beside, read_given, write, PLAN_OPTION};
 use std::io::Write;
 use std::path::Path;
+use workbench_core::judge::Run;
+use workbench_core::report::wave_page;
+use workbench_core::wave::{listed, Path as Links};
+use workbench_core::words;
 
 pub const COMMAND: Command = Command {
     name: "wave",
@@ -30,7 +29,7 @@ fn run(arguments: &[String], out: &mut dyn Write) -> Outcome {
     let lists = parted.options.iter().filter(|(option, _)| *option == "--links");
     let paths: Result<Vec<Links>, String> = lists.map(|(_, list)| listed(&run.network, list)).collect();
     let paths = paths.map_err(Problem)?;
-    let names = Names::beside(&given.network, Some(&run.network));
+    let names = names_beside(&given.network, &given.texts.network);
     let page = wave_page(&given.name(), &given.texts, &run, &names, paths);
     match parted.value("-o") {
         Some(path) => write(Path::new(path), page.as_bytes())?,

@@ -1,7 +1,7 @@
 //! The colours of the pages, read from their style: those that a picture tells apart differ for readers with deuteranopia too,
 //! and words are legible on what they stand on, by day and in the dark.
 
-const STYLE: &str = include_str!("../../src/report/style.css");
+const STYLE: &str = include_str!("../../core/src/report/style.css");
 
 /// The least difference of two fills, by CIEDE2000.
 const LEAST: f64 = 15.0;

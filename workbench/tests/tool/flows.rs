@@ -100,18 +100,16 @@ fn assert_no_volume_could_be_larger(seed: u64, network: &NetworkText, plan: &Pla
             let from = |place: usize| network.movements[place].from as usize == link + 1;
             let own = (0..network.movements.len()).filter(|&place| from(place));
             let shares: Vec<(usize, u32)> = own.map(|place| (place, network.movements[place].share)).collect();
-            if let Some(common) = (1..=1000)
-                .rev()
-                .find(|common| shares.iter().all(|(_, share)| share % common == 0))
-            {
-                if !shares.is_empty() {
-                    assert_refused(&|step| {
-                        shares
-                            .iter()
-                            .for_each(|&(place, share)| step.moved[place] += share / common)
-                    });
-                }
+            if shares.is_empty() {
+                continue;
             }
+            let divides = |common: &u32| shares.iter().all(|(_, share)| share % common == 0);
+            let common = (1..=1000).rev().find(divides).unwrap();
+            assert_refused(&|step| {
+                for &(place, share) in &shares {
+                    step.moved[place] += share / common;
+                }
+            });
         }
     }
 }

@@ -1,11 +1,11 @@
 //! Why a step is refused: the numbers that its rule compares. What the step's line and the limits are stands in the texts; what
 //! stood before the step, and what arrives in it, comes from the library.
 
-use crate::files::Texts;
 use crate::judge::{arrived_by_the_end, Run};
 use crate::network::{Movement, Network, Signal};
 use crate::plan::PlanLine;
 use crate::show::{phases, vehicles};
+use crate::texts::Texts;
 use plancheck::{Reason, Refusal};
 
 pub struct Why {

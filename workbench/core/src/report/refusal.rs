@@ -3,9 +3,9 @@
 use super::capital;
 use super::links::broken_link;
 use super::svg::escape;
-use crate::files::Texts;
 use crate::judge::Run;
 use crate::pointed::{pointed, Fields, Pointed};
+use crate::texts::Texts;
 use crate::why::Why;
 use crate::words;
 use plancheck::Refusal;

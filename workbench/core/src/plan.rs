@@ -1,8 +1,8 @@
 //! What the lines of a plan say.
 
-use crate::files::Texts;
 use crate::network::Network;
 use crate::records::{lines, record, write_record};
+use crate::texts::Texts;
 use plancheck::Totals;
 
 /// The line of a step. Fields that it does not have are 0.

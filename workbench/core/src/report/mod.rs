@@ -16,26 +16,24 @@ pub use cells::page as cells_page;
 pub use comparison::{crossings_of, page as comparison_page};
 pub use traces::page as traces_page;
 
-use crate::files::Texts;
 use crate::judge::Run;
 use crate::names::Names;
 use crate::plan::NO_VOLUMES;
 use crate::show::counted;
+use crate::texts::Texts;
 use crate::wave::Path as Links;
 use crate::why::{why, Why};
 use plancheck::Refusal;
 use shell::shell;
 use std::fmt::Write;
-use std::path::Path;
 
-/// The page of a plan; the names are those beside the network, whose place this is.
-pub fn page(name: &str, texts: &Texts, network: &Path) -> String {
+/// The page of a plan, with names for its links and signals.
+pub fn page(name: &str, texts: &Texts, names: &Names) -> String {
     let judged = Run::new(texts);
     let (run, refusal) = match &judged {
         Ok(run) => (Some(run), run.answer.err()),
         Err(refusal) => (None, Some(*refusal)),
     };
-    let names = Names::beside(network, run.map(|run| &run.network));
     let why = refusal.zip(run).and_then(|(refusal, run)| why(&refusal, texts, run));
     let mut body = verdict(refusal.as_ref());
     body += &run.map_or(String::new(), note);
@@ -43,8 +41,8 @@ pub fn page(name: &str, texts: &Texts, network: &Path) -> String {
         body += &refusal::section(refusal, texts, run, why.as_ref());
     }
     if let Some(run) = run {
-        body += &navigation(run, &names);
-        body += &pictures(texts, run, &names, refusal.as_ref(), why.as_ref());
+        body += &navigation(run, names);
+        body += &pictures(texts, run, names, refusal.as_ref(), why.as_ref());
     }
     shell(&format!("Plan of {name}"), &body)
 }

@@ -63,6 +63,7 @@ impl Sum {
     }
 
     /// With another sum, times a factor, added.
+    #[must_use]
     pub fn plus(mut self, factor: i64, other: &Sum) -> Sum {
         if factor != 0 {
             let added = other
@@ -75,6 +76,7 @@ impl Sum {
         self
     }
 
+    #[must_use]
     pub fn plus_all(self, factor: i64, others: impl IntoIterator<Item = Sum>) -> Sum {
         others.into_iter().fold(self, |sum, other| sum.plus(factor, &other))
     }

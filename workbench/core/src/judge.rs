@@ -1,9 +1,9 @@
 //! A plan judged on its network, with all that the library says of it. Every number here comes from a call of the library;
 //! the texts give what they say themselves: lengths, masks, limits.
 
-use crate::files::Texts;
 use crate::network::{cut, Network};
 use crate::plan::{plan_lines, PlanLine};
+use crate::texts::Texts;
 use plancheck::{
     carry_on, check_plan, link_state, LinkState, Refusal, Rows, Totals, Volumes, MAX_LEDGER_LEN, MAX_NETWORK_TEXT_LEN,
 };

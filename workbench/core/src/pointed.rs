@@ -1,11 +1,11 @@
 //! The lines of the texts that a refusal points at, with the fields that its rule is about.
 
 use crate::faults::marks;
-use crate::files::Texts;
 use crate::judge::Run;
 use crate::network::{Link, Movement, Network};
 use crate::records::lines;
 use crate::show;
+use crate::texts::Texts;
 use crate::words::{item_line, network_faults, plan_faults};
 use plancheck::{ItemKind, Reason, Refusal, Text};
 

@@ -181,12 +181,17 @@ fn greens(run: &Run, times: &[u32], link: usize) -> Option<Vec<Span>> {
 #[cfg(test)]
 mod tests {
     use super::*;
-    use crate::files::Texts;
+    use crate::texts::Texts;
     use std::fs;
 
     fn texts(example: &str) -> Texts {
-        let read =
-            |file: &str| fs::read(format!("{}/../examples/{example}/{file}", env!("CARGO_MANIFEST_DIR"))).unwrap();
+        let read = |file: &str| {
+            fs::read(format!(
+                "{}/../../examples/{example}/{file}",
+                env!("CARGO_MANIFEST_DIR")
+            ))
+            .unwrap()
+        };
         Texts {
             network: read("network.tsv"),
             plan: read("plan.tsv"),

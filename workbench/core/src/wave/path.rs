@@ -101,7 +101,7 @@ fn left(run: &Run, link: usize) -> u32 {
 #[cfg(test)]
 mod tests {
     use super::*;
-    use crate::files::Texts;
+    use crate::texts::Texts;
 
     /// Two roads of three links, 1 to 3 and 4 to 6. The first passes signals 1 and 2, the second those that are given.
     fn roads(second: [u32; 2]) -> Run {

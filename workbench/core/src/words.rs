@@ -2,16 +2,16 @@
 //! `docs/REFUSALS.md`, so that a number is described in one place.
 
 use crate::faults::{self, Fault};
-use crate::files::Texts;
 use crate::judge::Run;
 use crate::network::Network;
 use crate::pointed::{pointed, quoted};
+use crate::texts::Texts;
 use crate::why::why;
 use crate::{form, show};
 use plancheck::{ItemKind, Reason, Refusal, Text};
 use std::fmt::Write;
 
-const TABLES: &str = include_str!("../../docs/REFUSALS.md");
+const TABLES: &str = include_str!("../../../docs/REFUSALS.md");
 
 /// What the two tables say of a number.
 pub struct Row {

@@ -1,11 +1,8 @@
 //! Names of links and signals, for pages that people read: from a file beside the network, which need not be there. A line is
 //! `L` for a link or `G` for a signal, its number and its name, parted by tabs.
 
-use crate::files::{INPUT, NAMES};
 use crate::network::Network;
 use std::collections::HashMap;
-use std::path::Path;
-use std::{fs, io};
 
 #[derive(Default)]
 pub struct Names {
@@ -14,24 +11,9 @@ pub struct Names {
 }
 
 impl Names {
-    /// The names of a file beside a network, where it is a file; what is wrong with them is reported, and the rest is taken.
-    pub fn beside(path: &Path, network: Option<&Network>) -> Names {
-        if path == Path::new(INPUT) {
-            return Names::default();
-        }
-        let path = path.with_file_name(NAMES);
-        let read = fs::read(&path);
-        let (names, faults) = match (read, network) {
-            (Ok(text), Some(network)) => Names::read(&text, [network.links.len(), network.signals.len()]),
-            (Err(error), _) if error.kind() != io::ErrorKind::NotFound => {
-                (Names::default(), vec![format!("was not read: {error}")])
-            }
-            _ => (Names::default(), Vec::new()),
-        };
-        for fault in faults {
-            eprintln!("workbench: {} {fault}", path.display());
-        }
-        names
+    /// Reads names for a network's links and signals, and reports what is wrong with lines; the rest is taken.
+    pub fn of_network(text: &[u8], network: &Network) -> (Names, Vec<String>) {
+        Names::read(text, [network.links.len(), network.signals.len()])
     }
 
     /// Reads names for so many links and signals, and reports what is wrong with lines.
