@@ -1,73 +1,113 @@
 //! The verdict on a plan as JSON, for programs: `check --json` and `batch` write it.
 
-use crate::json::{object, Value};
 use plancheck::{library_version, Refusal, Totals};
+use serde::Serialize;
+use serde_json::value::RawValue;
 use workbench_core::network::Network;
 use workbench_core::words;
 
-/// A verdict, with the words of a refusal.
-pub struct Answer {
-    verdict: Result<Totals, (Refusal, String)>,
+/// What names the plan, and the verdict on it or why there is none.
+#[derive(Serialize)]
+pub struct Answer<'a> {
+    #[serde(flatten)]
+    named: Named<'a>,
+    #[serde(flatten)]
+    verdict: Verdict,
+    version: String,
 }
 
-impl Answer {
-    /// The words tell steps and seconds, for which the network is read.
-    pub fn new(network: &[u8], verdict: Result<Totals, Refusal>) -> Answer {
-        let verdict = verdict.map_err(|refusal| {
-            let network = Network::read(network).ok();
-            (refusal, words::sentence(&refusal, network.as_ref()))
-        });
-        Answer { verdict }
-    }
-
-    /// An object: what names the plan, then the answer, its numbers and the library's version.
-    pub fn json(&self, named: Vec<(&str, Value)>) -> Value {
-        let mut members = named;
-        match &self.verdict {
-            Ok(totals) => {
-                members.push(("answer", "accepted".into()));
-                members.push(("totals", totals_json(totals)));
-            }
-            Err((refusal, words)) => {
-                members.push(("answer", "refused".into()));
-                members.push(("refusal", refusal_json(refusal, words)));
-            }
-        }
-        members.push(("version", version().into()));
-        object(members)
-    }
+/// What names a plan.
+#[derive(Default, Serialize)]
+pub struct Named<'a> {
+    /// The number of the input's line.
+    #[serde(skip_serializing_if = "Option::is_none")]
+    pub line: Option<u64>,
+    /// As it is written in the line.
+    #[serde(skip_serializing_if = "Option::is_none")]
+    pub id: Option<&'a RawValue>,
+    #[serde(skip_serializing_if = "Option::is_none")]
+    pub network: Option<String>,
+    #[serde(skip_serializing_if = "Option::is_none")]
+    pub plan: Option<String>,
 }
 
-/// The object of what was not judged, with why.
-pub fn unread(named: Vec<(&str, Value)>, why: String) -> Value {
-    let mut members = named;
-    members.push(("answer", "unread".into()));
-    members.push(("why", why.into()));
-    members.push(("version", version().into()));
-    object(members)
+#[derive(Serialize)]
+#[serde(tag = "answer", rename_all = "lowercase")]
+enum Verdict {
+    Accepted {
+        totals: TotalNumbers,
+    },
+    Refused {
+        refusal: RefusalNumbers,
+    },
+    /// Nothing was judged.
+    Unread {
+        why: String,
+    },
 }
 
 /// Volumes in thousandths of a vehicle, the doubled time in thousandths of a vehicle times seconds.
-fn totals_json(totals: &Totals) -> Value {
-    object(vec![
-        ("admitted", totals.admitted.into()),
-        ("let_out", totals.let_out.into()),
-        ("inside", totals.inside.into()),
-        ("doubled_time", totals.doubled_time.into()),
-    ])
+#[derive(Serialize)]
+struct TotalNumbers {
+    admitted: u64,
+    let_out: u64,
+    inside: u64,
+    doubled_time: u64,
 }
 
 /// Names that a refusal does not have are null.
-fn refusal_json(refusal: &Refusal, words: &str) -> Value {
-    let name = |name: Option<String>| name.map_or(Value::Null, Value::from);
-    object(vec![
-        ("number", refusal.number.into()),
-        ("line", refusal.line.into()),
-        ("item", refusal.item.into()),
-        ("text", name(refusal.text().map(|text| text.to_string()))),
-        ("item_kind", name(refusal.item_kind().map(|kind| kind.to_string()))),
-        ("words", words.into()),
-    ])
+#[derive(Serialize)]
+struct RefusalNumbers {
+    number: u32,
+    line: u32,
+    item: u32,
+    text: Option<String>,
+    item_kind: Option<String>,
+    words: String,
+}
+
+impl<'a> Answer<'a> {
+    /// The words of a refusal tell steps and seconds, for which the network is read.
+    pub fn new(named: Named<'a>, network: &[u8], verdict: Result<Totals, Refusal>) -> Answer<'a> {
+        let verdict = match verdict {
+            Ok(totals) => Verdict::Accepted {
+                totals: TotalNumbers {
+                    admitted: totals.admitted,
+                    let_out: totals.let_out,
+                    inside: totals.inside,
+                    doubled_time: totals.doubled_time,
+                },
+            },
+            Err(refusal) => Verdict::Refused {
+                refusal: RefusalNumbers {
+                    number: refusal.number,
+                    line: refusal.line,
+                    item: refusal.item,
+                    text: refusal.text().map(|text| text.to_string()),
+                    item_kind: refusal.item_kind().map(|kind| kind.to_string()),
+                    words: words::sentence(&refusal, Network::read(network).ok().as_ref()),
+                },
+            },
+        };
+        Answer::of(named, verdict)
+    }
+
+    /// The answer of what was not judged.
+    pub fn unread(named: Named<'a>, why: String) -> Answer<'a> {
+        Answer::of(named, Verdict::Unread { why })
+    }
+
+    fn of(named: Named<'a>, verdict: Verdict) -> Answer<'a> {
+        Answer {
+            named,
+            verdict,
+            version: version(),
+        }
+    }
+
+    pub fn json(&self) -> String {
+        serde_json::to_string(self).unwrap_or_default()
+    }
 }
 
 /// The library's version.

@@ -1,8 +1,9 @@
 //! Files read and written whole, and the texts that a command's arguments name.
 
-use crate::command::{Command, Problem};
+use crate::command::Problem;
+use clap::Args;
 use std::fs;
-use std::io::{self, Read};
+use std::io::{self, Read, Write};
 use std::path::{Path, PathBuf};
 use std::sync::atomic::{AtomicBool, Ordering};
 use workbench_core::names::Names;
@@ -15,8 +16,27 @@ pub const PLAN: &str = "plan.tsv";
 pub const NAMES: &str = "names.tsv";
 /// Stands for standard input.
 pub const INPUT: &str = "-";
-/// The option that names the plan.
-pub const PLAN_OPTION: &str = "--plan";
+
+/// A network and a plan, as arguments name them.
+#[derive(Args)]
+pub struct Named {
+    /// A folder with network.tsv and plan.tsv; or a network, a file or a folder that has it
+    #[arg(value_name = "FOLDER|NETWORK")]
+    pub network: PathBuf,
+    /// The plan, where it is not the folder's
+    pub plan: Option<PathBuf>,
+    /// The plan, named in another way
+    #[arg(long = "plan", value_name = "PLAN", conflicts_with = "plan")]
+    other_plan: Option<PathBuf>,
+}
+
+/// Where a page is written.
+#[derive(Args)]
+pub struct Page {
+    /// The page that is written
+    #[arg(short = 'o', long = "output", value_name = "PAGE.html")]
+    path: Option<PathBuf>,
+}
 
 /// The two texts that arguments name, and where they are.
 pub struct Given {
@@ -61,8 +81,7 @@ pub fn make_folder(path: &Path) -> Result<(), Problem> {
 }
 
 /// Where the network is that an argument names: a folder stands for its `network.tsv`.
-pub fn network_at(argument: &str) -> PathBuf {
-    let path = Path::new(argument);
+pub fn network_at(path: &Path) -> PathBuf {
     if path.is_dir() {
         path.join(NETWORK)
     } else {
@@ -70,25 +89,69 @@ pub fn network_at(argument: &str) -> PathBuf {
     }
 }
 
-pub fn read_network(argument: &str) -> Result<Vec<u8>, Problem> {
-    read(&network_at(argument))
+pub fn read_network(path: &Path) -> Result<Vec<u8>, Problem> {
+    read(&network_at(path))
 }
 
-/// The texts of `FOLDER`, of `NETWORK PLAN`, or of either with `--plan FILE` for its plan.
-pub fn read_given(command: &Command, named: &[&str], plan: Option<&str>) -> Result<Given, Problem> {
-    let (network, plan) = match (named, plan) {
-        ([folder], None) if Path::new(folder).is_file() || *folder == INPUT => {
-            return Err(command.wrong_as(&format!("{folder} is one text, and a network and a plan are due")));
+impl Named {
+    pub fn new(network: &Path, plan: Option<&Path>) -> Named {
+        Named {
+            network: network.to_path_buf(),
+            plan: plan.map(Path::to_path_buf),
+            other_plan: None,
         }
-        ([folder], None) => of_folder(Path::new(folder))?,
-        (&[network], Some(plan)) | (&[network, plan], None) => (network_at(network), PathBuf::from(plan)),
-        _ => return Err(command.wrong()),
-    };
-    let texts = Texts {
-        network: read(&network)?,
-        plan: read(&plan)?,
-    };
-    Ok(Given { texts, network, plan })
+    }
+
+    /// The plan that is named beside the network or folder.
+    fn own_plan(&self) -> Option<&Path> {
+        self.plan.as_deref().or(self.other_plan.as_deref())
+    }
+
+    /// What is named where it is one thing.
+    pub fn alone(&self) -> Option<&Path> {
+        self.own_plan().is_none().then_some(self.network.as_path())
+    }
+
+    /// Reads the two texts.
+    pub fn read(&self) -> Result<Given, Problem> {
+        let (network, plan) = match self.own_plan() {
+            None if self.network.is_file() || self.network == Path::new(INPUT) => {
+                let named = self.network.display();
+                return Err(Problem(format!(
+                    "{named} is one text, and a network and a plan are due: a folder, NETWORK PLAN, or NETWORK --plan PLAN"
+                )));
+            }
+            None => of_folder(&self.network)?,
+            Some(plan) => (network_at(&self.network), plan.to_path_buf()),
+        };
+        let texts = Texts {
+            network: read(&network)?,
+            plan: read(&plan)?,
+        };
+        Ok(Given { texts, network, plan })
+    }
+}
+
+impl Page {
+    /// Writes a page where it is asked for, else to the output of the tool.
+    pub fn write_or_print(&self, page: &str, out: &mut dyn Write) -> Result<(), Problem> {
+        write_or_print(self.path.as_deref(), page.as_bytes(), out)
+    }
+
+    /// Writes a page where it is asked for.
+    pub fn write(&self, page: impl FnOnce() -> String) -> Result<(), Problem> {
+        self.path
+            .as_deref()
+            .map_or(Ok(()), |path| write(path, page().as_bytes()))
+    }
+}
+
+/// Writes a text to a file that is named, else to the output of the tool.
+pub fn write_or_print(path: Option<&Path>, text: &[u8], out: &mut dyn Write) -> Result<(), Problem> {
+    match path {
+        Some(path) => write(path, text),
+        None => Ok(out.write_all(text)?),
+    }
 }
 
 /// The two files of a folder.
@@ -97,7 +160,7 @@ fn of_folder(folder: &Path) -> Result<(PathBuf, PathBuf), Problem> {
     if network.exists() && !plan.exists() {
         let folder = folder.display();
         return Err(Problem(format!(
-            "{folder} has no {PLAN}; {PLAN_OPTION} FILE names another plan"
+            "{folder} has no {PLAN}; --plan FILE names another plan"
         )));
     }
     Ok((network, plan))
@@ -163,9 +226,11 @@ fn begins_as_plan(path: &Path) -> Result<bool, Problem> {
 }
 
 /// The name of a file, without its folders.
-pub fn name_of(path: &str) -> &str {
-    let name = Path::new(path).file_name().and_then(|name| name.to_str());
-    name.unwrap_or(path)
+pub fn name_of(path: &Path) -> String {
+    path.file_name()
+        .unwrap_or(path.as_os_str())
+        .to_string_lossy()
+        .into_owned()
 }
 
 /// The names of a file beside a network, where it is a file; what is wrong with them is reported, and the rest is taken.

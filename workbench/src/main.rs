@@ -1,22 +1,19 @@
-//! The engineer's tool over the plan check library. `workbench` alone prints what it can do.
+//! The engineer's tool over the plan check library: a command line over `workbench-core`. `workbench` alone prints what it can do.
 
 mod answer;
 mod command;
 mod commands;
 mod files;
-mod json;
 
-use command::{Ended, Problem};
+use clap::{CommandFactory, Parser};
+use command::{Ended, Outcome, Problem};
+use commands::Tool;
 use std::io::{self, BufWriter, Write};
 use std::process::ExitCode;
 
-/// What holds of all commands, at the end of the usage.
-const NOTES: &str = include_str!("notes.txt");
-
 fn main() -> ExitCode {
-    let arguments: Vec<String> = std::env::args().skip(1).collect();
     let mut out = BufWriter::new(io::stdout().lock());
-    let outcome = run(&arguments, &mut out).and_then(|ended| {
+    let outcome = run(&mut out).and_then(|ended| {
         out.flush()?;
         Ok(ended)
     });
@@ -32,43 +29,21 @@ fn main() -> ExitCode {
     }
 }
 
-fn run(arguments: &[String], out: &mut dyn Write) -> command::Outcome {
-    match arguments {
-        [] => {
-            write_usage(out)?;
-            Ok(Ended::Done)
-        }
-        [word, ..] if word == "-h" || word == "--help" => {
-            write_usage(out)?;
-            Ok(Ended::Done)
-        }
-        [word, ..] if word == "--version" => {
-            let (own, library) = (env!("CARGO_PKG_VERSION"), answer::version());
-            writeln!(out, "workbench {own}, plan check library {library}")?;
-            Ok(Ended::Done)
-        }
-        [name, rest @ ..] => match commands::ALL.iter().find(|command| command.name == name) {
-            Some(command) if matches!(rest, [word] if word == "-h" || word == "--help") => {
-                writeln!(
-                    out,
-                    "usage: workbench {} {}\n{}",
-                    command.name, command.arguments, command.does
-                )?;
-                Ok(Ended::Done)
-            }
-            Some(command) => command.run(rest, out),
-            None => Err(Problem(format!(
-                "there is no command {name}; workbench -h lists all of them"
-            ))),
-        },
+fn run(out: &mut dyn Write) -> Outcome {
+    if std::env::args_os().len() < 2 {
+        write!(out, "{}", Tool::command().render_help())?;
+        return Ok(Ended::Done);
     }
-}
-
-fn write_usage(out: &mut dyn Write) -> io::Result<()> {
-    writeln!(out, "usage: workbench COMMAND ARGUMENTS\n")?;
-    for command in commands::ALL {
-        writeln!(out, "  {} {}\n      {}", command.name, command.arguments, command.does)?;
+    match Tool::try_parse() {
+        Ok(tool) => tool.command.run(out),
+        // Help and the version are asked for, and are no fault.
+        Err(told) if !told.use_stderr() => {
+            write!(out, "{}", told.render())?;
+            Ok(Ended::Done)
+        }
+        Err(wrong) => {
+            let words = wrong.render().to_string();
+            Err(Problem(words.trim_start_matches("error: ").trim_end().to_string()))
+        }
     }
-    out.write_all(b"\n")?;
-    out.write_all(NOTES.as_bytes())
 }

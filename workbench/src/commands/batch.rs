@@ -1,10 +1,13 @@
 //! `batch`: many plans, each on its network, a line of JSON for each.
 
-use crate::answer::{unread, Answer};
-use crate::command::{part, Command, Ended, Outcome, Problem};
+use crate::answer::{Answer, Named};
+use crate::command::{Ended, Outcome, Problem};
 use crate::files::{network_at, read_file, read_network, take_input, INPUT, NETWORK, PLAN};
-use crate::json::{self, Value};
+use clap::Args;
 use plancheck::{check_plan, MAX_LEDGER_LEN};
+use serde::{Deserialize, Deserializer};
+use serde_json::value::RawValue;
+use std::borrow::Cow;
 use std::fs::File;
 use std::io::{self, BufRead, BufReader, Write};
 use std::path::{Path, PathBuf};
@@ -12,14 +15,25 @@ use std::sync::mpsc::{sync_channel, Receiver, SyncSender, TryRecvError};
 use std::sync::Arc;
 use std::thread::{self, JoinHandle};
 
-pub const COMMAND: Command = Command {
-    name: "batch",
-    arguments: "[--network NETWORK] [--jobs N] [LIST]",
-    does: "judges what each line of standard input or of LIST names, a JSON line for each in their order: NETWORK tab PLAN, FOLDER, or JSON with the texts",
-    run,
-};
+/// Judge what each line of a list names, and write a line of JSON for each, in their order
+///
+/// A line is NETWORK tab PLAN, FOLDER, or JSON with the texts.
+#[derive(Args)]
+#[command(after_help = "Examples:
+  ls made/plan*.tsv | workbench batch --network made > answers.jsonl
+  workbench batch --jobs 4 list.txt")]
+pub struct Arguments {
+    /// The network of all plans, a file or a folder that has it
+    #[arg(long)]
+    network: Option<PathBuf>,
+    /// How many lines are judged at once, 1 to 256
+    #[arg(long, value_name = "N", default_value_t = 1, value_parser = clap::value_parser!(u16).range(1..=MAX_JOBS))]
+    jobs: u16,
+    /// The lines [default: standard input]
+    list: Option<PathBuf>,
+}
 
-const MAX_JOBS: usize = 256;
+const MAX_JOBS: i64 = 256;
 /// How many lines wait for a judge, and how many of its answers wait to be written: memory does not grow with the input.
 const WAITING: usize = 16;
 /// The longest line: both texts at their longest are 230,892 bytes, and JSON may write each as six.
@@ -43,22 +57,19 @@ struct Told {
     is_read: bool,
 }
 
-fn run(arguments: &[String], out: &mut dyn Write) -> Outcome {
-    let parted = part(&COMMAND, arguments, &["--network", "--jobs"], &[])?;
-    let jobs = parted.value("--jobs").map_or(Some(1), |jobs| jobs.parse().ok());
-    let jobs = jobs.filter(|jobs| (1..=MAX_JOBS).contains(jobs));
-    let jobs = jobs.ok_or_else(|| COMMAND.wrong_as(&format!("--jobs takes 1 to {MAX_JOBS}")))?;
-    let input: Box<dyn BufRead + Send> = match parted.others[..] {
-        [] | [INPUT] => Box::new(BufReader::new(take_input()?)),
-        [list] => {
-            let file = File::open(list).map_err(|error| Problem(format!("{list} was not read: {error}")))?;
+pub fn run(arguments: &Arguments, out: &mut dyn Write) -> Outcome {
+    let list = arguments.list.as_deref().filter(|list| *list != Path::new(INPUT));
+    let input: Box<dyn BufRead + Send> = match list {
+        None => Box::new(BufReader::new(take_input()?)),
+        Some(list) => {
+            let file = File::open(list);
+            let file = file.map_err(|error| Problem(format!("{} was not read: {error}", list.display())))?;
             Box::new(BufReader::new(file))
         }
-        _ => return Err(COMMAND.wrong()),
     };
-    let network = parted.value("--network").map(read_network).transpose()?;
+    let network = arguments.network.as_deref().map(read_network).transpose()?;
     let network: Option<Arc<[u8]>> = network.map(Arc::from);
-    judge_all(input, network.as_ref(), jobs, out)
+    judge_all(input, network.as_ref(), usize::from(arguments.jobs), out)
 }
 
 /// The lines go to the judges in turn, and their answers come in the same turn, so that they stay in order. Where nobody reads
@@ -166,35 +177,37 @@ fn judge_lines(lines: &Receiver<Line>, answers: &SyncSender<Told>, network: Opti
 }
 
 fn judge_line(line: &Line, network: Option<&[u8]>, ledger: &mut [u32]) -> Told {
-    let mut named = vec![("line", line.number.into())];
+    let mut named = Named {
+        line: Some(line.number),
+        ..Named::default()
+    };
     let texts = match &line.read {
         Read::Whole(bytes) => texts_of(bytes, network, &mut named),
         Read::TooLong => Err(format!("the line is longer than {MAX_LINE} bytes")),
     };
-    match texts {
+    let is_read = texts.is_ok();
+    let answer = match texts {
         Ok(Texts { own, plan }) => {
             let network = own.as_deref().or(network).unwrap_or_default();
             let verdict = check_plan(network, &plan, ledger);
-            Told {
-                json: Answer::new(network, verdict).json(named).to_string(),
-                is_read: true,
-            }
+            Answer::new(named, network, verdict)
         }
-        Err(why) => Told {
-            json: unread(named, why).to_string(),
-            is_read: false,
-        },
+        Err(why) => Answer::unread(named, why),
+    };
+    Told {
+        json: answer.json(),
+        is_read,
     }
 }
 
 /// What a line gives: a plan, and a network where it is not that of all lines.
-struct Texts {
-    own: Option<Vec<u8>>,
-    plan: Vec<u8>,
+struct Texts<'a> {
+    own: Option<Cow<'a, [u8]>>,
+    plan: Cow<'a, [u8]>,
 }
 
 /// The texts of a line, or why there are none; what names them goes before the answer.
-fn texts_of(line: &[u8], network: Option<&[u8]>, named: &mut Vec<(&str, Value)>) -> Result<Texts, String> {
+fn texts_of<'a>(line: &'a [u8], network: Option<&[u8]>, named: &mut Named<'a>) -> Result<Texts<'a>, String> {
     let line = std::str::from_utf8(line).map_err(|_| "the line is no UTF-8".to_string())?;
     if line.trim_start().starts_with('{') {
         return texts_in(line, network.is_some(), named);
@@ -202,44 +215,64 @@ fn texts_of(line: &[u8], network: Option<&[u8]>, named: &mut Vec<(&str, Value)>)
     let (own, plan) = match (line.split_once('\t'), network) {
         _ if line.is_empty() => return Err("the line is empty".to_string()),
         (Some(_), Some(_)) => return Err("the network is that of --network, and the line names two files".to_string()),
-        (Some((network, plan)), None) => (Some(network_at(network)), PathBuf::from(plan)),
+        (Some((network, plan)), None) => (Some(network_at(Path::new(network))), PathBuf::from(plan)),
         (None, Some(_)) => (None, PathBuf::from(line)),
         (None, None) => (Some(Path::new(line).join(NETWORK)), Path::new(line).join(PLAN)),
     };
-    if let Some(own) = &own {
-        named.push(("network", own.display().to_string().into()));
-    }
-    named.push(("plan", plan.display().to_string().into()));
-    let read = |path: &Path| read_file(path).map_err(|problem| problem.0);
+    named.network = own.as_deref().map(|own| own.display().to_string());
+    named.plan = Some(plan.display().to_string());
+    let read = |path: &Path| read_file(path).map(Cow::Owned).map_err(|problem| problem.0);
     Ok(Texts {
         own: own.as_deref().map(read).transpose()?,
         plan: read(&plan)?,
     })
 }
 
-/// The texts in a line of JSON: `network`, unless all lines have one, `plan`, and perhaps an `id`, which the answer repeats.
-fn texts_in(line: &str, has_network: bool, named: &mut Vec<(&str, Value)>) -> Result<Texts, String> {
-    let Value::Object(members) = json::read(line).map_err(|wrong| wrong.to_string())? else {
-        return Err("an object is due".to_string());
-    };
-    let id = members.iter().find(|(key, _)| key == "id");
-    named.extend(id.map(|(_, id)| ("id", id.clone())));
-    let (mut own, mut plan) = (None, None);
-    for (key, value) in members {
-        match (key.as_str(), value) {
-            ("id", _) => {}
-            ("network", _) if has_network => {
-                return Err("the network is that of --network, and the line has one".to_string())
-            }
-            ("network", Value::Text(text)) => own = Some(text.into_bytes()),
-            ("plan", Value::Text(text)) => plan = Some(text.into_bytes()),
-            ("network" | "plan", _) => return Err(format!("{key} is no string")),
-            _ => return Err(format!("there is no key {key}: network, plan and id are")),
-        }
-    }
-    if own.is_none() && !has_network {
-        return Err("there is no network".to_string());
+/// A line of JSON: `network`, unless all lines have one, `plan`, and perhaps an `id`, which the answer repeats.
+#[derive(Deserialize)]
+#[serde(deny_unknown_fields)]
+struct InLine<'a> {
+    #[serde(borrow)]
+    network: Option<Cow<'a, str>>,
+    #[serde(borrow)]
+    plan: Option<Cow<'a, str>>,
+    #[serde(borrow, default, deserialize_with = "as_written")]
+    id: Option<&'a RawValue>,
+}
+
+/// What the answer repeats of a line that is wrong otherwise.
+#[derive(Deserialize)]
+struct OnlyId<'a> {
+    #[serde(borrow, default, deserialize_with = "as_written")]
+    id: Option<&'a RawValue>,
+}
+
+/// A value as it is written, null too.
+fn as_written<'de, D: Deserializer<'de>>(value: D) -> Result<Option<&'de RawValue>, D::Error> {
+    <&RawValue>::deserialize(value).map(Some)
+}
+
+fn texts_in<'a>(line: &'a str, has_network: bool, named: &mut Named<'a>) -> Result<Texts<'a>, String> {
+    let InLine { network, plan, id } = serde_json::from_str(line).map_err(|error| {
+        named.id = serde_json::from_str::<OnlyId>(line).ok().and_then(|only| only.id);
+        format!("no JSON that is due: {error}")
+    })?;
+    named.id = id;
+    match (&network, has_network) {
+        (Some(_), true) => return Err("the network is that of --network, and the line has one".to_string()),
+        (None, false) => return Err("there is no network".to_string()),
+        _ => {}
     }
     let plan = plan.ok_or("there is no plan: an empty one, which means hold, is \"\"")?;
-    Ok(Texts { own, plan })
+    Ok(Texts {
+        own: network.map(bytes_of),
+        plan: bytes_of(plan),
+    })
+}
+
+fn bytes_of(text: Cow<str>) -> Cow<[u8]> {
+    match text {
+        Cow::Borrowed(text) => Cow::Borrowed(text.as_bytes()),
+        Cow::Owned(text) => Cow::Owned(text.into_bytes()),
+    }
 }

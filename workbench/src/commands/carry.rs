@@ -1,29 +1,31 @@
 //! `carry`: the network text from a boundary on, after the plan's first lines have run.
 
-use crate::command::{Command, Ended, Outcome};
+use crate::command::{Ended, Outcome};
 use crate::files::{read, read_network};
+use clap::Args;
 use plancheck::{carry_on, Reason, Refusal, Text, MAX_LEDGER_LEN, MAX_NETWORK_TEXT_LEN};
 use std::io::Write;
-use std::path::Path;
+use std::path::PathBuf;
 use workbench_core::faults::Fault;
 use workbench_core::network::Network;
 use workbench_core::{form, words};
 
-pub const COMMAND: Command = Command {
-    name: "carry",
-    arguments: "NETWORK BOUNDARY PLAN",
-    does: "writes the network text from a boundary on, after a plan of just as many lines has run",
-    run,
-};
+/// Write the network text from a boundary on, after a plan of just as many lines has run
+#[derive(Args)]
+#[command(after_help = "Example:
+  head -n 8 plan.tsv | workbench carry network.tsv 8 - > carried.tsv")]
+pub struct Arguments {
+    /// The network, a file or a folder that has it
+    network: PathBuf,
+    /// How many steps have run
+    boundary: u32,
+    /// The lines that have run, and no more
+    plan: PathBuf,
+}
 
-fn run(arguments: &[String], out: &mut dyn Write) -> Outcome {
-    let [network, boundary, plan] = arguments else {
-        return Err(COMMAND.wrong());
-    };
-    let boundary = boundary
-        .parse()
-        .map_err(|_| COMMAND.wrong_as(&format!("'{boundary}' is no boundary, a whole number")))?;
-    let (network, plan) = (read_network(network)?, read(Path::new(plan))?);
+pub fn run(arguments: &Arguments, out: &mut dyn Write) -> Outcome {
+    let boundary = arguments.boundary;
+    let (network, plan) = (read_network(&arguments.network)?, read(&arguments.plan)?);
     let mut ledger = vec![0; MAX_LEDGER_LEN];
     let mut carried = vec![0; MAX_NETWORK_TEXT_LEN];
     match carry_on(&network, boundary, &plan, &mut ledger, &mut carried) {

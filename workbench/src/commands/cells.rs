@@ -1,28 +1,29 @@
 //! `cells`: a run of a corridor in cells.
 
-use crate::command::{part, Command, Ended, Outcome, Parted};
-use crate::files::{name_of, read, write};
+use crate::command::{Ended, Outcome};
+use crate::files::{name_of, read, Page};
+use clap::Args;
 use plancheck::Text;
 use std::io::Write;
-use std::path::Path;
+use std::path::PathBuf;
 use workbench_core::cells::over_time;
 use workbench_core::faults::of_corridor;
 use workbench_core::report::cells_page;
 use workbench_core::{form, show, words};
 
-pub const COMMAND: Command = Command {
-    name: "cells",
-    arguments: "CORRIDOR [-o PAGE.html]",
-    does: "runs a corridor in cells: total flow in and out, and the volume of each cell after the last step; draws how full each cell is after each step",
-    run,
-};
+/// Run a corridor in cells: total flow in and out, and the volume of each cell after the last step
+#[derive(Args)]
+#[command(after_help = "Example:
+  workbench cells examples/cells/corridor.tsv -o cells.html")]
+pub struct Arguments {
+    /// The text of the corridor
+    corridor: PathBuf,
+    #[command(flatten)]
+    page: Page,
+}
 
-fn run(arguments: &[String], out: &mut dyn Write) -> Outcome {
-    let Parted { options, others } = part(&COMMAND, arguments, &["-o"], &[])?;
-    let [path] = others[..] else {
-        return Err(COMMAND.wrong());
-    };
-    let corridor = read(Path::new(path))?;
+pub fn run(arguments: &Arguments, out: &mut dyn Write) -> Outcome {
+    let corridor = read(&arguments.corridor)?;
     match over_time(&corridor) {
         Ok(over_time) => {
             let run = &over_time.run;
@@ -31,9 +32,8 @@ fn run(arguments: &[String], out: &mut dyn Write) -> Outcome {
             for (cell, &volume) in run.volumes.iter().enumerate().take(run.cells as usize) {
                 writeln!(out, "cell {:<4} {} vehicles", cell + 1, show::vehicles(volume.into()))?;
             }
-            if let Some((_, page)) = options.last() {
-                write(Path::new(page), cells_page(name_of(path), &over_time).as_bytes())?;
-            }
+            let name = name_of(&arguments.corridor);
+            arguments.page.write(|| cells_page(&name, &over_time))?;
             Ok(Ended::Done)
         }
         Err(refusal) => {

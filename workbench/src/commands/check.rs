@@ -1,33 +1,42 @@
 //! `check`: the verdict on a plan.
 
-use crate::answer::Answer;
-use crate::command::{part, Command, Ended, Outcome};
-use crate::files::{read_given, PLAN_OPTION};
+use crate::answer::{self, Answer};
+use crate::command::{Ended, Outcome};
+use crate::files::Named;
+use clap::Args;
 use std::io::Write;
 use workbench_core::judge::judge;
 use workbench_core::network::Network;
 use workbench_core::plan::{has_no_volumes, NO_VOLUMES};
 use workbench_core::{show, words};
 
-pub const COMMAND: Command = Command {
-    name: "check",
-    arguments: "FOLDER [--plan FILE] | NETWORK PLAN [--json]",
-    does: "judges a plan: its totals, or the refusal in words; with --json as one JSON object",
-    run,
-};
+/// Judge a plan: its totals, or the refusal in words
+#[derive(Args)]
+#[command(after_help = "Examples:
+  workbench check examples/corridor
+  workbench check examples/corridor --plan other.tsv --json")]
+pub struct Arguments {
+    #[command(flatten)]
+    named: Named,
+    /// Print one JSON object
+    #[arg(long)]
+    json: bool,
+}
 
-fn run(arguments: &[String], out: &mut dyn Write) -> Outcome {
-    let parted = part(&COMMAND, arguments, &[PLAN_OPTION], &["--json"])?;
-    let given = read_given(&COMMAND, &parted.others, parted.value(PLAN_OPTION))?;
+pub fn run(arguments: &Arguments, out: &mut dyn Write) -> Outcome {
+    let given = arguments.named.read()?;
     let answer = judge(&given.texts).answer;
     let ended = if answer.is_ok() { Ended::Done } else { Ended::Refused };
     if answer.is_ok_and(|totals| has_no_volumes(&given.texts, &totals)) {
         eprintln!("workbench: {NO_VOLUMES}");
     }
-    if parted.has("--json") {
-        let (network, plan) = (given.network.display().to_string(), given.plan.display().to_string());
-        let named = vec![("network", network.into()), ("plan", plan.into())];
-        writeln!(out, "{}", Answer::new(&given.texts.network, answer).json(named))?;
+    if arguments.json {
+        let named = answer::Named {
+            network: Some(given.network.display().to_string()),
+            plan: Some(given.plan.display().to_string()),
+            ..answer::Named::default()
+        };
+        writeln!(out, "{}", Answer::new(named, &given.texts.network, answer).json())?;
         return Ok(ended);
     }
     match answer {

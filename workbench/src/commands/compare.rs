@@ -1,11 +1,12 @@
 //! `compare`: which of two plans is ahead.
 
-use crate::command::{part, Command, Ended, Outcome, Parted};
-use crate::files::{name_of, read, read_network, write};
+use crate::command::{Ended, Outcome};
+use crate::files::{name_of, read, read_network, Page};
+use clap::Args;
 use plancheck::{compare_plans, Order, Refused, Text, MAX_LEDGER_LEN};
 use std::cmp::Ordering;
 use std::io::Write;
-use std::path::Path;
+use std::path::PathBuf;
 use workbench_core::judge::Run;
 use workbench_core::network::Network;
 use workbench_core::plan::NO_VOLUMES;
@@ -13,20 +14,24 @@ use workbench_core::report::{comparison_page, crossings_of};
 use workbench_core::texts::Texts;
 use workbench_core::{show, words};
 
-pub const COMMAND: Command = Command {
-    name: "compare",
-    arguments: "NETWORK FIRST SECOND [-o PAGE.html]",
-    does: "says which of two plans is ahead, by all vehicles let out up to each boundary, where they cross and the gap of their travel times; draws both",
-    run,
-};
+/// Say which of two plans is ahead, where they cross, and the gap of their travel times
+///
+/// A plan is ahead by all vehicles let out up to each boundary.
+#[derive(Args)]
+#[command(after_help = "Example:
+  workbench compare network.tsv first.tsv second.tsv -o both.html")]
+pub struct Arguments {
+    /// The network, a file or a folder that has it
+    network: PathBuf,
+    first: PathBuf,
+    second: PathBuf,
+    #[command(flatten)]
+    page: Page,
+}
 
-fn run(arguments: &[String], out: &mut dyn Write) -> Outcome {
-    let Parted { options, others } = part(&COMMAND, arguments, &["-o"], &[])?;
-    let [network, first_path, second_path] = others[..] else {
-        return Err(COMMAND.wrong());
-    };
-    let network = read_network(network)?;
-    let (first, second) = (read(Path::new(first_path))?, read(Path::new(second_path))?);
+pub fn run(arguments: &Arguments, out: &mut dyn Write) -> Outcome {
+    let network = read_network(&arguments.network)?;
+    let (first, second) = (read(&arguments.first)?, read(&arguments.second)?);
     let mut ledgers = [vec![0; MAX_LEDGER_LEN], vec![0; MAX_LEDGER_LEN]];
     let [one, other] = &mut ledgers;
     match compare_plans(&network, &first, &second, one, other) {
@@ -47,9 +52,10 @@ fn run(arguments: &[String], out: &mut dyn Write) -> Outcome {
             for words in &said {
                 writeln!(out, "{words}")?;
             }
-            if let Some(((_, page), [one, other])) = options.last().zip(runs.as_ref()) {
-                let page_text = comparison_page([first_path, second_path].map(name_of), &said, [one, other]);
-                write(Path::new(page), page_text.as_bytes())?;
+            if let Some([one, other]) = &runs {
+                let names = [&arguments.first, &arguments.second].map(|path| name_of(path));
+                let names = [names[0].as_str(), names[1].as_str()];
+                arguments.page.write(|| comparison_page(names, &said, [one, other]))?;
             }
             Ok(Ended::Done)
         }

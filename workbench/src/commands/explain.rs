@@ -1,29 +1,35 @@
 //! `explain`: a refusal with its place, the lines that it points at, and what to do.
 
-use crate::command::{part, Command, Ended, Outcome, Problem};
-use crate::files::{read_given, PLAN_OPTION};
+use crate::command::{Ended, Outcome, Problem};
+use crate::files::Named;
+use clap::Args;
 use plancheck::Reason;
 use std::io::Write;
-use std::path::Path;
 use workbench_core::judge::Run;
 use workbench_core::words;
 
-pub const COMMAND: Command = Command {
-    name: "explain",
-    arguments: "FOLDER [--plan FILE] | NETWORK PLAN | NUMBER",
-    does: "says of a refused network or plan where it breaks, by which lines and numbers, and what to do; or what a refusal's number means",
-    run,
-};
+/// Say of a refused network or plan where it breaks, and why; or what a refusal's number means
+///
+/// The place, the lines and fields that the rule is about, the numbers that it compares, and what to do.
+#[derive(Args)]
+#[command(override_usage = "workbench explain [OPTIONS] <FOLDER|NETWORK> [PLAN]
+       workbench explain <NUMBER>")]
+#[command(after_help = "Examples:
+  workbench explain examples/corridor
+  workbench explain network.tsv plan.tsv
+  workbench explain 17")]
+pub struct Arguments {
+    #[command(flatten)]
+    named: Named,
+}
 
-fn run(arguments: &[String], out: &mut dyn Write) -> Outcome {
-    let parted = part(&COMMAND, arguments, &[PLAN_OPTION], &[])?;
-    if let [argument] = parted.others[..] {
-        let number = argument.parse::<u32>().ok();
-        if let Some(number) = number.filter(|_| !Path::new(argument).exists()) {
+pub fn run(arguments: &Arguments, out: &mut dyn Write) -> Outcome {
+    if let Some(named) = arguments.named.alone().filter(|named| !named.exists()) {
+        if let Some(Ok(number)) = named.to_str().map(str::parse) {
             return explain_number(number, out);
         }
     }
-    let texts = read_given(&COMMAND, &parted.others, parted.value(PLAN_OPTION))?.texts;
+    let texts = arguments.named.read()?.texts;
     let (refusal, run) = match Run::new(&texts) {
         Ok(run) => match run.answer {
             Ok(_) => {

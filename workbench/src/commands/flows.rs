@@ -1,31 +1,40 @@
 //! `flows`: the volumes that given phases let pass.
 
 use super::sheet::plan_of;
-use crate::command::{part, Command, Ended, Outcome};
-use crate::files::{network_at, read, read_given, write, PLAN_OPTION};
+use crate::command::{Ended, Outcome};
+use crate::files::{read, read_network, write_or_print, Named};
+use clap::Args;
 use plancheck::{NetworkText, PlanText, Refusal};
 use std::io::Write;
-use std::path::Path;
+use std::path::PathBuf;
 use workbench_core::flows::{coarse_links, flows};
 use workbench_core::judge::{judge, Run};
 use workbench_core::texts::Texts;
 use workbench_core::{show, words};
 
-pub const COMMAND: Command = Command {
-    name: "flows",
-    arguments: "FOLDER [--plan FILE] | NETWORK PLAN | NETWORK --sheet SHEET [-o PLAN]",
-    does: "fills in the volumes that the phases of a plan, or of a sheet with offsets, let pass where nobody is held back; the volumes of the plan are passed over",
-    run,
-};
+/// Fill in the volumes that the phases of a plan, or of a sheet with offsets, let pass
+///
+/// Traffic runs, and nobody is held back; volumes of the plan that gives the phases are passed over.
+#[derive(Args)]
+#[command(after_help = "Examples:
+  workbench flows examples/avenue --sheet examples/sheet/offsets.tsv -o plan.tsv
+  workbench flows network.tsv --plan phases.tsv > plan.tsv")]
+pub struct Arguments {
+    #[command(flatten)]
+    named: Named,
+    /// The sheet that gives the phases, with offsets
+    #[arg(long, conflicts_with_all = ["plan", "other_plan"])]
+    sheet: Option<PathBuf>,
+    /// The plan that is written [default: standard output]
+    #[arg(short, long, value_name = "PLAN")]
+    output: Option<PathBuf>,
+}
 
-const SHEET_OPTION: &str = "--sheet";
-
-fn run(arguments: &[String], out: &mut dyn Write) -> Outcome {
-    let parted = part(&COMMAND, arguments, &["-o", PLAN_OPTION, SHEET_OPTION], &[])?;
-    let mut texts = match (parted.value(SHEET_OPTION), &parted.others[..]) {
-        (None, others) => read_given(&COMMAND, others, parted.value(PLAN_OPTION))?.texts,
-        (Some(sheet), &[network]) if !parted.has(PLAN_OPTION) => {
-            let (network, sheet) = (read(&network_at(network))?, read(Path::new(sheet))?);
+pub fn run(arguments: &Arguments, out: &mut dyn Write) -> Outcome {
+    let mut texts = match &arguments.sheet {
+        None => arguments.named.read()?.texts,
+        Some(sheet) => {
+            let (network, sheet) = (read_network(&arguments.named.network)?, read(sheet)?);
             match plan_of(&network, &sheet) {
                 Ok(plan) => Texts { network, plan },
                 Err(words) => {
@@ -34,7 +43,6 @@ fn run(arguments: &[String], out: &mut dyn Write) -> Outcome {
                 }
             }
         }
-        _ => return Err(COMMAND.wrong()),
     };
     let coarse = match fill(&mut texts) {
         Ok(coarse) => coarse,
@@ -42,10 +50,7 @@ fn run(arguments: &[String], out: &mut dyn Write) -> Outcome {
     };
     match judge(&texts).answer {
         Ok(totals) => {
-            match parted.value("-o") {
-                Some(path) => write(Path::new(path), &texts.plan)?,
-                None => out.write_all(&texts.plan)?,
-            }
+            write_or_print(arguments.output.as_deref(), &texts.plan, out)?;
             tell_coarse(&coarse);
             eprintln!("workbench: {}", show::accepted(&totals));
             Ok(Ended::Done)

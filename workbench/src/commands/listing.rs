@@ -1,26 +1,27 @@
 //! `listing`: a plan text from a solver's listing.
 
-use crate::command::{Command, Ended, Outcome};
+use crate::command::{Ended, Outcome};
 use crate::files::{read, read_network};
+use clap::Args;
 use plancheck::{plan_from_listing, Text, MAX_WRITTEN_PLAN_LEN};
 use std::io::Write;
-use std::path::Path;
+use std::path::PathBuf;
 use workbench_core::faults::of_listing;
 use workbench_core::network::Network;
 use workbench_core::words;
 
-pub const COMMAND: Command = Command {
-    name: "listing",
-    arguments: "NETWORK LISTING",
-    does: "writes the plan text of a solver's listing; `check` judges it",
-    run,
-};
+/// Write the plan text of a solver's listing
+#[derive(Args)]
+#[command(after_help = "Example:
+  workbench listing examples/listing examples/listing/listing.txt > plan.tsv")]
+pub struct Arguments {
+    /// The network, a file or a folder that has it
+    network: PathBuf,
+    listing: PathBuf,
+}
 
-fn run(arguments: &[String], out: &mut dyn Write) -> Outcome {
-    let [network, listing] = arguments else {
-        return Err(COMMAND.wrong());
-    };
-    let (network, listing) = (read_network(network)?, read(Path::new(listing))?);
+pub fn run(arguments: &Arguments, out: &mut dyn Write) -> Outcome {
+    let (network, listing) = (read_network(&arguments.network)?, read(&arguments.listing)?);
     let mut plan = vec![0; MAX_WRITTEN_PLAN_LEN];
     match plan_from_listing(&network, &listing, &mut plan) {
         Ok(length) => {

@@ -1,22 +1,36 @@
 //! `make`: a seeded avenue with plans that the check accepts.
 
-use crate::command::{part, Command, Ended, Outcome, Parted, Problem};
+use crate::command::{Ended, Outcome, Problem};
 use crate::files::{make_folder, read, write, NETWORK, PLAN};
+use clap::Args;
 use plancheck::{NetworkText, PlanText, MAX_STEPS};
 use std::io::Write;
-use std::path::Path;
+use std::path::{Path, PathBuf};
 use workbench_core::judge::judge;
 use workbench_core::make::{avenue, plan, Chance, MAX_JUNCTIONS};
 use workbench_core::show::counted;
 use workbench_core::texts::Texts;
 use workbench_core::{show, words};
 
-pub const COMMAND: Command = Command {
-    name: "make",
-    arguments: "SEED FOLDER [--junctions 1..7] [--steps 1..120] [--plans COUNT]",
-    does: "writes an avenue with traffic, perhaps with trams, and plans for it that the check accepts: plan.tsv, plan-2.tsv, ..",
-    run,
-};
+/// Write an avenue with traffic, perhaps with trams, and plans for it that the check accepts
+///
+/// The same seed makes the same texts: network.tsv, plan.tsv, plan-2.tsv, ..
+#[derive(Args)]
+#[command(after_help = "Example:
+  workbench make 45 made --junctions 3 --steps 40 --plans 20")]
+pub struct Arguments {
+    seed: u64,
+    folder: PathBuf,
+    /// How many junctions, 1 to 7 [default: drawn]
+    #[arg(long, value_parser = clap::value_parser!(u32).range(1..=i64::from(MAX_JUNCTIONS)))]
+    junctions: Option<u32>,
+    /// How many steps, 1 to 120 [default: drawn]
+    #[arg(long, value_parser = clap::value_parser!(u32).range(1..=MAX_STEPS as i64))]
+    steps: Option<u32>,
+    /// How many plans
+    #[arg(long, default_value_t = 1, value_parser = clap::value_parser!(u32).range(1..))]
+    plans: u32,
+}
 
 /// The longest files that the program plancheck reads, and so `./check`.
 const MAX_CHECK_NETWORK: usize = 16_384;
@@ -24,22 +38,16 @@ const MAX_CHECK_PLAN: usize = 24_576;
 /// How many signals' draws are tried before a seed is given up.
 const TRIES: u32 = 100;
 
-/// What is made of a seed: drawn, or as the options say.
-struct Sizes {
-    junctions: u32,
-    steps: u32,
-    plans: u32,
-}
-
-fn run(arguments: &[String], out: &mut dyn Write) -> Outcome {
-    let Parted { options, others } = part(&COMMAND, arguments, &["--junctions", "--steps", "--plans"], &[])?;
-    let [seed, folder] = others[..] else {
-        return Err(COMMAND.wrong());
-    };
-    let mut chance = Chance::new(seed.parse().map_err(|_| COMMAND.wrong())?);
-    let sizes = sizes(&mut chance, &options)?;
-    let (network, mut made) = avenue_with_plan(&mut chance, &sizes)?;
-    let folder = Path::new(folder);
+pub fn run(arguments: &Arguments, out: &mut dyn Write) -> Outcome {
+    let mut chance = Chance::new(arguments.seed);
+    // Both are drawn in any case, so that an option changes nothing else.
+    let (junctions, steps) = (chance.between(2, 5), chance.between(24, 48));
+    let (junctions, steps) = (
+        arguments.junctions.unwrap_or(junctions),
+        arguments.steps.unwrap_or(steps),
+    );
+    let (network, mut made) = avenue_with_plan(&mut chance, junctions, steps)?;
+    let folder = &arguments.folder;
     make_folder(folder)?;
     let network_text = network.to_string();
     write_network(&folder.join(NETWORK), network_text.as_bytes())?;
@@ -53,7 +61,7 @@ fn run(arguments: &[String], out: &mut dyn Write) -> Outcome {
     writeln!(out, "{}", counts.join(", "))?;
     let mut name = PLAN.to_string();
     let mut longest_plan = 0;
-    for number in 1..=sizes.plans {
+    for number in 1..=arguments.plans {
         if number > 1 {
             name = format!("plan-{number}.tsv");
             made = plan(&mut chance, &network).ok_or_else(no_plan)?;
@@ -87,29 +95,10 @@ fn write_network(path: &Path, text: &[u8]) -> Result<(), Problem> {
     write(path, text)
 }
 
-fn sizes(chance: &mut Chance, options: &[(&str, &str)]) -> Result<Sizes, Problem> {
-    let most_steps = u32::try_from(MAX_STEPS).unwrap_or(u32::MAX);
-    let mut sizes = Sizes {
-        junctions: chance.between(2, 5),
-        steps: chance.between(24, 48),
-        plans: 1,
-    };
-    for (option, value) in options {
-        let value: u32 = value.parse().map_err(|_| COMMAND.wrong())?;
-        match *option {
-            "--junctions" if (1..=MAX_JUNCTIONS).contains(&value) => sizes.junctions = value,
-            "--steps" if (1..=most_steps).contains(&value) => sizes.steps = value,
-            "--plans" if value > 0 => sizes.plans = value,
-            _ => return Err(COMMAND.wrong()),
-        }
-    }
-    Ok(sizes)
-}
-
 /// An avenue whose signals can all keep their limits, with a plan.
-fn avenue_with_plan(chance: &mut Chance, sizes: &Sizes) -> Result<(NetworkText, PlanText), Problem> {
+fn avenue_with_plan(chance: &mut Chance, junctions: u32, steps: u32) -> Result<(NetworkText, PlanText), Problem> {
     for _ in 0..TRIES {
-        let network = avenue(chance, sizes.junctions, sizes.steps);
+        let network = avenue(chance, junctions, steps);
         if let Some(plan) = plan(chance, &network) {
             return Ok((network, plan));
         }

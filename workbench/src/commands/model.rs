@@ -1,35 +1,39 @@
 //! `model`: the check's rules for a solver.
 
-use crate::command::{part, Command, Ended, Outcome};
-use crate::files::{read, read_network, write};
+use crate::command::{Ended, Outcome};
+use crate::files::{read, read_network, write_or_print};
+use clap::Args;
 use plancheck::{NetworkText, PlanText, Refusal, Text};
 use std::io::Write;
-use std::path::Path;
+use std::path::PathBuf;
 use workbench_core::flows::without_volumes;
 use workbench_core::judge::{judge, Run};
 use workbench_core::model::Model;
 use workbench_core::texts::Texts;
 use workbench_core::words;
 
-pub const COMMAND: Command = Command {
-    name: "model",
-    arguments: "NETWORK [--phases PLAN] [-o FILE]",
-    does: "writes the rules of the check as a mixed integer program in LP format, for a solver; with the phases of a plan fixed, its volumes alone are sought; `solution` reads what it finds",
-    run,
-};
+/// Write the rules of the check as a mixed integer program in LP format, for a solver
+///
+/// `solution` reads what the solver finds.
+#[derive(Args)]
+#[command(after_help = "Examples:
+  workbench model examples/corridor -o model.lp
+  workbench model examples/avenue --phases plan.tsv -o model.lp
+  cbc model.lp solve solu found.sol")]
+pub struct Arguments {
+    /// The network, a file or a folder that has it
+    network: PathBuf,
+    /// The phases of this plan are fixed, and its volumes alone are sought
+    #[arg(long, value_name = "PLAN")]
+    phases: Option<PathBuf>,
+    /// The program that is written [default: standard output]
+    #[arg(short, long, value_name = "FILE")]
+    output: Option<PathBuf>,
+}
 
-const PHASES_OPTION: &str = "--phases";
-
-fn run(arguments: &[String], out: &mut dyn Write) -> Outcome {
-    let parted = part(&COMMAND, arguments, &["-o", PHASES_OPTION], &[])?;
-    let [network] = parted.others[..] else {
-        return Err(COMMAND.wrong());
-    };
-    let text = read_network(network)?;
-    let plan = parted
-        .value(PHASES_OPTION)
-        .map(|plan| read(Path::new(plan)))
-        .transpose()?;
+pub fn run(arguments: &Arguments, out: &mut dyn Write) -> Outcome {
+    let text = read_network(&arguments.network)?;
+    let plan = arguments.phases.as_deref().map(read).transpose()?;
     let network = match NetworkText::read(&text) {
         Ok(network) => network,
         Err(refusal) => {
@@ -51,10 +55,7 @@ fn run(arguments: &[String], out: &mut dyn Write) -> Outcome {
         }
     }
     let model = model.to_string();
-    match parted.value("-o") {
-        Some(path) => write(Path::new(path), model.as_bytes())?,
-        None => out.write_all(model.as_bytes())?,
-    }
+    write_or_print(arguments.output.as_deref(), model.as_bytes(), out)?;
     Ok(Ended::Done)
 }
 

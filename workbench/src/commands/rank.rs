@@ -1,22 +1,34 @@
 //! `rank`: many plans on one network, by travel time.
 
-use crate::command::{part, Command, Ended, Outcome, Parted, Problem};
-use crate::files::{network_at, plans_in, read, Found, NETWORK};
+use crate::command::{Ended, Outcome, Problem};
+use crate::files::{plans_in, read, read_network, Found, NETWORK};
+use clap::Args;
 use plancheck::{check_network, Refusal, Totals};
+use serde::Serialize;
 use std::io::{self, Write};
-use std::path::{Path, PathBuf};
+use std::path::PathBuf;
 use std::time::{Duration, Instant};
 use workbench_core::judge::judge;
 use workbench_core::plan::{has_no_volumes, NO_VOLUMES};
 use workbench_core::texts::Texts;
 use workbench_core::{show, words};
 
-pub const COMMAND: Command = Command {
-    name: "rank",
-    arguments: "[--csv] FOLDER.. | NETWORK PLAN..",
-    does: "judges every plan of the folders (.tsv files that start with P) and every PLAN on the first network, and sorts them by travel time",
-    run,
-};
+/// Judge many plans on one network, and sort them by travel time
+///
+/// The plans are all .tsv files of the folders that start with P or are empty, and each PLAN; the network is that of the first
+/// folder, or is named first.
+#[derive(Args)]
+#[command(after_help = "Examples:
+  workbench rank made
+  workbench rank network.tsv first.tsv second.tsv --csv")]
+pub struct Arguments {
+    /// Folders with a network and plans; or a network, and plans
+    #[arg(value_name = "FOLDER|NETWORK|PLAN", required = true)]
+    named: Vec<PathBuf>,
+    /// Print CSV with the library's numbers
+    #[arg(long)]
+    csv: bool,
+}
 
 struct Ranked {
     plan: PathBuf,
@@ -25,29 +37,25 @@ struct Ranked {
     has_no_volumes: bool,
 }
 
-fn run(arguments: &[String], out: &mut dyn Write) -> Outcome {
-    let Parted { options, others: named } = part(&COMMAND, arguments, &[], &["--csv"])?;
-    let Some(first) = named.first() else {
-        return Err(COMMAND.wrong());
-    };
-    let network = read(&network_at(first))?;
+pub fn run(arguments: &Arguments, out: &mut dyn Write) -> Outcome {
+    let network = read_network(&arguments.named[0])?;
     if let Err(refusal) = check_network(&network) {
         eprintln!("workbench: {}", words::sentence(&refusal, None));
         return Ok(Ended::Refused);
     }
-    let plans = plans_of(&named, &network)?;
+    let plans = plans_of(&arguments.named, &network)?;
     if plans.is_empty() {
-        return Err(COMMAND.wrong_as(&format!(
+        return Err(Problem(format!(
             "there is no plan: neither a file that is named behind the network, nor a .tsv file beside {NETWORK} that starts with P"
         )));
     }
     let mut ranked = judge_all(network.clone(), plans)?;
     // The accepted ones come first, and those of one travel time as they were found.
     ranked.sort_by_key(|plan| plan.answer.map_or((1, 0), |totals| (0, totals.doubled_time)));
-    if options.is_empty() {
-        write_table(out, &ranked)?;
-    } else {
+    if arguments.csv {
         write_csv(out, &ranked)?;
+    } else {
+        write_table(out, &ranked)?;
     }
     let without = ranked.iter().filter(|plan| plan.has_no_volumes).count();
     if without > 0 {
@@ -69,12 +77,11 @@ fn run(arguments: &[String], out: &mut dyn Write) -> Outcome {
 
 /// The plans that are named, those of a folder by name; the first name is also that of the network. A folder that has another
 /// network is a problem, and what is no plan is reported.
-fn plans_of(named: &[&str], network: &[u8]) -> Result<Vec<PathBuf>, Problem> {
+fn plans_of(named: &[PathBuf], network: &[u8]) -> Result<Vec<PathBuf>, Problem> {
     let mut plans = Vec::new();
-    for (place, name) in named.iter().enumerate() {
-        let path = Path::new(name);
+    for (place, path) in named.iter().enumerate() {
         if !path.is_dir() {
-            plans.extend((place > 0).then(|| path.to_path_buf()));
+            plans.extend((place > 0).then(|| path.clone()));
             continue;
         }
         let own = path.join(NETWORK);
@@ -82,7 +89,7 @@ fn plans_of(named: &[&str], network: &[u8]) -> Result<Vec<PathBuf>, Problem> {
             return Err(Problem(format!(
                 "{} is another network than that of {}: travel times of two networks do not compare",
                 own.display(),
-                named[0]
+                named[0].display()
             )));
         }
         let found = plans_in(path)?;
@@ -155,28 +162,38 @@ fn in_short(refusal: &Refusal) -> String {
     format!("R {number} {line} {item}{step}{kind}")
 }
 
-/// Volumes in thousandths of a vehicle, the doubled time in thousandths of a vehicle times seconds, as the library gives them.
-fn write_csv(out: &mut dyn Write, ranked: &[Ranked]) -> io::Result<()> {
-    writeln!(out, "plan,refusal,line,item,doubled_time,admitted,let_out,inside")?;
-    for plan in ranked {
-        let name = quoted(&plan.plan.display().to_string());
-        match &plan.answer {
-            Ok(totals) => writeln!(
-                out,
-                "{name},0,0,0,{},{},{},{}",
-                totals.doubled_time, totals.admitted, totals.let_out, totals.inside
-            )?,
-            Err(refusal) => writeln!(out, "{name},{},{},{},,,,", refusal.number, refusal.line, refusal.item)?,
-        }
-    }
-    Ok(())
+/// A line of the CSV: volumes in thousandths of a vehicle, the doubled time in thousandths of a vehicle times seconds, as the
+/// library gives them.
+#[derive(Serialize)]
+struct Line {
+    plan: String,
+    refusal: u32,
+    line: u32,
+    item: u32,
+    doubled_time: Option<u64>,
+    admitted: Option<u64>,
+    let_out: Option<u64>,
+    inside: Option<u64>,
 }
 
-/// A field of CSV, in quotation marks where it needs them.
-fn quoted(field: &str) -> String {
-    if field.contains([',', '"', '\n', '\r']) {
-        format!("\"{}\"", field.replace('"', "\"\""))
-    } else {
-        field.to_string()
+fn write_csv(out: &mut dyn Write, ranked: &[Ranked]) -> Result<(), Problem> {
+    let mut table = csv::Writer::from_writer(out);
+    for plan in ranked {
+        let totals = plan.answer.ok();
+        let (refusal, line, item) = plan
+            .answer
+            .err()
+            .map_or((0, 0, 0), |refusal| (refusal.number, refusal.line, refusal.item));
+        table.serialize(Line {
+            plan: plan.plan.display().to_string(),
+            refusal,
+            line,
+            item,
+            doubled_time: totals.map(|totals| totals.doubled_time),
+            admitted: totals.map(|totals| totals.admitted),
+            let_out: totals.map(|totals| totals.let_out),
+            inside: totals.map(|totals| totals.inside),
+        })?;
     }
+    Ok(table.flush()?)
 }

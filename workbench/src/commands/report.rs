@@ -1,26 +1,28 @@
 //! `report`: a plan on one HTML page.
 
-use crate::command::{part, Command, Ended, Outcome};
-use crate::files::{names_beside, read_given, write, PLAN_OPTION};
+use crate::command::{Ended, Outcome};
+use crate::files::{names_beside, Named, Page};
+use clap::Args;
 use std::io::Write;
-use std::path::Path;
 use workbench_core::report::page;
 
-pub const COMMAND: Command = Command {
-    name: "report",
-    arguments: "FOLDER [--plan FILE] | NETWORK PLAN [-o PAGE.html]",
-    does: "writes one HTML page with pictures: phases, what enters and leaves each link, queues, who waits outside, totals, and where a refused plan breaks",
-    run,
-};
+/// Write one HTML page with pictures of a plan, of a refused one too
+///
+/// Phases, what enters and leaves each link, queues, who waits outside, totals, delays, and where a refused plan breaks.
+#[derive(Args)]
+#[command(after_help = "Example:
+  workbench report examples/avenue -o avenue.html")]
+pub struct Arguments {
+    #[command(flatten)]
+    named: Named,
+    #[command(flatten)]
+    page: Page,
+}
 
-fn run(arguments: &[String], out: &mut dyn Write) -> Outcome {
-    let parted = part(&COMMAND, arguments, &["-o", PLAN_OPTION], &[])?;
-    let given = read_given(&COMMAND, &parted.others, parted.value(PLAN_OPTION))?;
+pub fn run(arguments: &Arguments, out: &mut dyn Write) -> Outcome {
+    let given = arguments.named.read()?;
     let names = names_beside(&given.network, &given.texts.network);
     let page = page(&given.name(), &given.texts, &names);
-    match parted.value("-o") {
-        Some(path) => write(Path::new(path), page.as_bytes())?,
-        None => out.write_all(page.as_bytes())?,
-    }
+    arguments.page.write_or_print(&page, out)?;
     Ok(Ended::Done)
 }

@@ -1,10 +1,11 @@
 //! `sheet`: whether a plan keeps a fixed-time sheet, or a plan for one.
 
-use crate::command::{Command, Ended, Outcome};
+use crate::command::{Ended, Outcome};
 use crate::files::{read, read_network};
+use clap::Args;
 use plancheck::{check_sheet, plan_from_sheet, Reason, Refusal, Text, MAX_LEDGER_LEN, MAX_WRITTEN_PLAN_LEN};
 use std::io::Write;
-use std::path::Path;
+use std::path::PathBuf;
 use workbench_core::faults::{of_sheet, off_boundaries, Fault, Faults};
 use workbench_core::judge::carried;
 use workbench_core::network::Network;
@@ -13,25 +14,28 @@ use workbench_core::records::{lines, record};
 use workbench_core::texts::Texts;
 use workbench_core::{form, show, words};
 
-pub const COMMAND: Command = Command {
-    name: "sheet",
-    arguments: "NETWORK SHEET [PLAN]",
-    does: "says whether a plan keeps a fixed-time sheet; without a plan, writes one for a sheet with offsets",
-    run,
-};
+/// Say whether a plan keeps a fixed-time sheet; without a plan, write one for a sheet with offsets
+///
+/// The plan that is written has no volumes: `flows` fills them in.
+#[derive(Args)]
+#[command(after_help = "Examples:
+  workbench sheet examples/avenue examples/sheet/sheet.tsv plan.tsv
+  workbench sheet examples/avenue examples/sheet/offsets.tsv > phases.tsv")]
+pub struct Arguments {
+    /// The network, a file or a folder that has it
+    network: PathBuf,
+    sheet: PathBuf,
+    plan: Option<PathBuf>,
+}
 
-fn run(arguments: &[String], out: &mut dyn Write) -> Outcome {
-    match arguments {
-        [network, sheet] => write_plan(&read_network(network)?, &read(Path::new(sheet))?, out),
-        [network, sheet, plan] => {
-            let sheet = read(Path::new(sheet))?;
-            let texts = Texts {
-                network: read_network(network)?,
-                plan: read(Path::new(plan))?,
-            };
-            hold_to(&texts, &sheet, out)
+pub fn run(arguments: &Arguments, out: &mut dyn Write) -> Outcome {
+    let (network, sheet) = (read_network(&arguments.network)?, read(&arguments.sheet)?);
+    match &arguments.plan {
+        None => write_plan(&network, &sheet, out),
+        Some(plan) => {
+            let plan = read(plan)?;
+            hold_to(&Texts { network, plan }, &sheet, out)
         }
-        _ => Err(COMMAND.wrong()),
     }
 }
 

@@ -1,10 +1,11 @@
 //! `solution`: the plan in what a solver writes.
 
-use crate::command::{part, Command, Ended, Outcome, Problem};
-use crate::files::{read, read_network, write};
+use crate::command::{Ended, Outcome, Problem};
+use crate::files::{read, read_network, write_or_print};
+use clap::Args;
 use plancheck::{NetworkText, PlanText, Text};
 use std::io::Write;
-use std::path::Path;
+use std::path::PathBuf;
 use workbench_core::judge::judge;
 use workbench_core::model::Model;
 use workbench_core::network::Network;
@@ -12,22 +13,30 @@ use workbench_core::solution::{self, listing, Taken};
 use workbench_core::texts::Texts;
 use workbench_core::{show, words};
 
-pub const COMMAND: Command = Command {
-    name: "solution",
-    arguments: "NETWORK FILE [--plan] [-o OUT]",
-    does: "writes the listing, or with --plan the plan text, of what a solver has found: CBC, GLPK, HiGHS, SCIP, Gurobi, lp_solve",
-    run,
-};
+/// Write the listing, or the plan text, of what a solver has found, and say whether the check accepts it
+#[derive(Args)]
+#[command(after_help = "Example:
+  workbench solution examples/corridor found.sol --plan -o plan.tsv
+
+It reads what CBC, GLPK, HiGHS, SCIP, Gurobi and lp_solve write.")]
+pub struct Arguments {
+    /// The network, a file or a folder that has it
+    network: PathBuf,
+    /// What the solver has written
+    file: PathBuf,
+    /// Write the plan text, and not the listing
+    #[arg(long)]
+    plan: bool,
+    /// The text that is written [default: standard output]
+    #[arg(short, long, value_name = "OUT")]
+    output: Option<PathBuf>,
+}
 
 /// How many variables are printed by name.
 const TOLD: usize = 5;
 
-fn run(arguments: &[String], out: &mut dyn Write) -> Outcome {
-    let parted = part(&COMMAND, arguments, &["-o"], &["--plan"])?;
-    let [network, file] = parted.others[..] else {
-        return Err(COMMAND.wrong());
-    };
-    let (text, found) = (read_network(network)?, read(Path::new(file))?);
+pub fn run(arguments: &Arguments, out: &mut dyn Write) -> Outcome {
+    let (text, found) = (read_network(&arguments.network)?, read(&arguments.file)?);
     let network = match NetworkText::read(&text) {
         Ok(network) => network,
         Err(refusal) => {
@@ -36,18 +45,17 @@ fn run(arguments: &[String], out: &mut dyn Write) -> Outcome {
             return Ok(Ended::Refused);
         }
     };
-    let Some(plan) = find_plan(&network, file, &found)? else {
+    let Some(plan) = find_plan(&network, &arguments.file.display().to_string(), &found)? else {
         return Ok(Ended::Refused);
     };
-    let written = if parted.has("--plan") {
+    let written = if arguments.plan {
         Ok(plan.to_string())
     } else {
         listing(&network, &plan)
     };
-    match (written, parted.value("-o")) {
-        (Ok(written), Some(path)) => write(Path::new(path), written.as_bytes())?,
-        (Ok(written), None) => out.write_all(written.as_bytes())?,
-        (Err(faults), _) => {
+    match written {
+        Ok(written) => write_or_print(arguments.output.as_deref(), written.as_bytes(), out)?,
+        Err(faults) => {
             tell_faults(&faults);
             return Ok(Ended::Refused);
         }

@@ -1,35 +1,53 @@
 //! `split`: the networks and plans of two boxes from those of the whole corridor.
 
-use crate::command::{part, Command, Ended, Outcome, Problem};
-use crate::files::{make_folder, read_given, write, NETWORK, PLAN, PLAN_OPTION};
+use crate::command::{Ended, Outcome, Problem};
+use crate::files::{make_folder, write, Named, NETWORK, PLAN};
+use clap::Args;
 use plancheck::{split, Reason, Refusal, Text, MAX_LINKS};
 use std::io::Write;
-use std::path::Path;
+use std::path::PathBuf;
 use workbench_core::faults::Fault;
 use workbench_core::halves::Halves;
 use workbench_core::network::Network;
 use workbench_core::words;
 
-pub const COMMAND: Command = Command {
-    name: "split",
-    arguments: "FOLDER [--plan FILE] | NETWORK PLAN, LINKS -o OUT",
-    does: "splits network and plan between two boxes, by the links of the first, as 1,2,5-7: writes OUT/first and OUT/second",
-    run,
-};
+/// Split network and plan between two boxes, by the links of the first: writes OUT/first and OUT/second
+#[derive(Args)]
+#[command(override_usage = "workbench split <FOLDER> <LINKS> -o <OUT>
+       workbench split <NETWORK> <PLAN> <LINKS> -o <OUT>
+       workbench split <NETWORK> --plan <PLAN> <LINKS> -o <OUT>")]
+#[command(after_help = "Example:
+  workbench split examples/split 1-3,9 -o halves")]
+pub struct Arguments {
+    /// A folder with network.tsv and plan.tsv; or a network, a file or a folder that has it
+    #[arg(value_name = "FOLDER|NETWORK")]
+    network: PathBuf,
+    /// The links of the first box, as 1,2,5-7; the plan may stand before them
+    #[arg(value_name = "LINKS", required = true, num_args = 1..=2)]
+    rest: Vec<PathBuf>,
+    /// The plan, where it is not the folder's
+    #[arg(long)]
+    plan: Option<PathBuf>,
+    /// The folder of both halves
+    #[arg(short, long, value_name = "OUT")]
+    output: PathBuf,
+}
 
-fn run(arguments: &[String], out: &mut dyn Write) -> Outcome {
-    let parted = part(&COMMAND, arguments, &["-o", PLAN_OPTION], &[])?;
-    let ([named @ .., links], Some(written)) = (&parted.others[..], parted.value("-o")) else {
-        return Err(COMMAND.wrong());
+pub fn run(arguments: &Arguments, out: &mut dyn Write) -> Outcome {
+    let (plan, links) = match (&arguments.rest[..], &arguments.plan) {
+        ([links], plan) => (plan.as_ref(), links),
+        ([plan, links], None) => (Some(plan), links),
+        _ => return Err(Problem("the plan is named twice".to_string())),
     };
-    let first_half = set_of(links)?;
-    let texts = read_given(&COMMAND, named, parted.value(PLAN_OPTION))?.texts;
+    let named = Named::new(&arguments.network, plan.map(PathBuf::as_path));
+    let first_half = set_of(&links.to_string_lossy())?;
+    let texts = named.read()?.texts;
     let network = Network::read(&texts.network).ok();
     let halves = network.as_ref().map(|network| Halves { network, first_half });
     match split(&texts.network, &texts.plan, first_half) {
         Ok(written_halves) => {
             for ((name, is_first), half) in [("first", true), ("second", false)].into_iter().zip(written_halves) {
-                let folder = Path::new(written).join(name);
+                let folder = arguments.output.join(name);
                 make_folder(&folder)?;
                 write(&folder.join(NETWORK), &half.network)?;
                 write(&folder.join(PLAN), &half.plan)?;
@@ -92,7 +110,7 @@ fn number_of(digits: &str, links: &str) -> Result<u32, Problem> {
 }
 
 fn no_list(links: &str, why: &str) -> Problem {
-    COMMAND.wrong_as(&format!("'{links}' is no list of links, as 1,2,5-7 is: {why}"))
+    Problem(format!("'{links}' is no list of links, as 1,2,5-7 is: {why}"))
 }
 
 #[cfg(test)]

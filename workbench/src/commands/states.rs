@@ -1,22 +1,35 @@
 //! `states`: what is queued and in transit on each link at each boundary.
 
-use crate::command::{part, Command, Ended, Outcome};
-use crate::files::{read_given, PLAN_OPTION};
+use crate::command::{Ended, Outcome};
+use crate::files::Named;
+use clap::Args;
+use serde::Serialize;
 use std::io::Write;
 use workbench_core::judge::states_of;
 use workbench_core::network::Network;
 use workbench_core::words;
 
-pub const COMMAND: Command = Command {
-    name: "states",
-    arguments: "FOLDER [--plan FILE] | NETWORK PLAN",
-    does: "writes what is queued and in transit on each link at each boundary as CSV, in thousandths of a vehicle",
-    run,
-};
+/// Write what is queued and in transit on each link at each boundary, as CSV in thousandths of a vehicle
+#[derive(Args)]
+#[command(after_help = "Example:
+  workbench states examples/corridor")]
+pub struct Arguments {
+    #[command(flatten)]
+    named: Named,
+}
 
-fn run(arguments: &[String], out: &mut dyn Write) -> Outcome {
-    let parted = part(&COMMAND, arguments, &[PLAN_OPTION], &[])?;
-    let texts = read_given(&COMMAND, &parted.others, parted.value(PLAN_OPTION))?.texts;
+/// A line of the table.
+#[derive(Serialize)]
+struct State {
+    boundary: usize,
+    second: u32,
+    link: usize,
+    queued: u32,
+    in_transit: u32,
+}
+
+pub fn run(arguments: &Arguments, out: &mut dyn Write) -> Outcome {
+    let texts = arguments.named.read()?.texts;
     let network = Network::read(&texts.network);
     let told = match &network {
         Ok(network) => states_of(&texts, network),
@@ -29,17 +42,18 @@ fn run(arguments: &[String], out: &mut dyn Write) -> Outcome {
             return Ok(Ended::Refused);
         }
     };
-    writeln!(out, "boundary,second,link,queued,in_transit")?;
+    let mut table = csv::Writer::from_writer(out);
     for ((boundary, row), second) in states.iter().enumerate().zip(network.times()) {
         for (link, state) in row.iter().enumerate() {
-            writeln!(
-                out,
-                "{boundary},{second},{},{},{}",
-                link + 1,
-                state.queued,
-                state.in_transit
-            )?;
+            table.serialize(State {
+                boundary,
+                second,
+                link: link + 1,
+                queued: state.queued,
+                in_transit: state.in_transit,
+            })?;
         }
     }
+    table.flush()?;
     Ok(Ended::Done)
 }

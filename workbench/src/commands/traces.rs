@@ -1,25 +1,27 @@
 //! `traces`: vehicles along a street, step by step.
 
-use crate::command::{part, Command, Ended, Outcome, Parted, Problem};
-use crate::files::{name_of, read, write};
+use crate::command::{Ended, Outcome, Problem};
+use crate::files::{name_of, read, Page};
+use clap::Args;
 use std::io::Write;
-use std::path::Path;
+use std::path::PathBuf;
 use workbench_core::report::traces_page;
 use workbench_core::street::{Stopped, Street};
 
-pub const COMMAND: Command = Command {
-    name: "traces",
-    arguments: "STREET [-o PAGE.html]",
-    does: "moves vehicles along a street step by step: prints the places after each step, in metres, and draws them over time",
-    run,
-};
+/// Move vehicles along a street: their places after each step, in metres
+#[derive(Args)]
+#[command(after_help = "Example:
+  workbench traces examples/traces/street.tsv -o street.html")]
+pub struct Arguments {
+    /// The text of the street
+    street: PathBuf,
+    #[command(flatten)]
+    page: Page,
+}
 
-fn run(arguments: &[String], out: &mut dyn Write) -> Outcome {
-    let Parted { options, others } = part(&COMMAND, arguments, &["-o"], &[])?;
-    let [path] = others[..] else {
-        return Err(COMMAND.wrong());
-    };
-    let text = read(Path::new(path))?;
+pub fn run(arguments: &Arguments, out: &mut dyn Write) -> Outcome {
+    let text = read(&arguments.street)?;
+    let path = arguments.street.display();
     let street = match Street::run(&String::from_utf8_lossy(&text)) {
         Ok(street) => street,
         Err(Stopped::Line(line, words)) => return Err(Problem(format!("{path}, line {line}: {words}"))),
@@ -35,8 +37,7 @@ fn run(arguments: &[String], out: &mut dyn Write) -> Outcome {
         }
         writeln!(out)?;
     }
-    if let Some((_, page)) = options.last() {
-        write(Path::new(page), traces_page(name_of(path), &street).as_bytes())?;
-    }
+    let name = name_of(&arguments.street);
+    arguments.page.write(|| traces_page(&name, &street))?;
     Ok(Ended::Done)
 }

@@ -69,11 +69,12 @@ fn lines_of_each_kind_in_their_order() {
             .to_string(),
         "{\"line\":7,\"answer\":\"unread\",\"why\":\"the line is empty\",\"version\":\"1.0.0\"}".to_string(),
         "{\"line\":8,\"answer\":\"unread\",\"why\":\"there is no plan: ".to_string(),
-        "{\"line\":9,\"id\":null,\"answer\":\"unread\",\"why\":\"plan is no string\"".to_string(),
-        "{\"line\":10,\"answer\":\"unread\",\"why\":\"there is no network\"".to_string(),
-        "{\"line\":11,\"answer\":\"unread\",\"why\":\"there is no key netwrok: network, plan and id are\"".to_string(),
-        "{\"line\":12,\"answer\":\"unread\",\"why\":\"no JSON at byte 14: four hexadecimal digits are due\""
+        "{\"line\":9,\"id\":null,\"answer\":\"unread\",\"why\":\"no JSON that is due: invalid type: integer `1`, expected a string at line 1 column "
             .to_string(),
+        "{\"line\":10,\"answer\":\"unread\",\"why\":\"there is no network\"".to_string(),
+        "{\"line\":11,\"answer\":\"unread\",\"why\":\"no JSON that is due: unknown field `netwrok`, expected one of `network`, `plan`, `id` at line 1 column "
+            .to_string(),
+        "{\"line\":12,\"answer\":\"unread\",\"why\":\"no JSON that is due: invalid escape at line 1 column 14\"".to_string(),
         format!("{{\"line\":13,{ACCEPTED}"),
     ];
     let one = workbench_with(&["batch"], input.as_bytes());
@@ -91,6 +92,56 @@ fn lines_of_each_kind_in_their_order() {
     let list = scratch("batch_list").join("list.txt");
     fs::write(&list, &input).unwrap();
     assert_eq!(workbench(&["batch", &list.display().to_string()]).out, one.out);
+}
+
+/// Whatever the id is, and whatever else is wrong with the line.
+#[test]
+fn an_id_stands_in_the_answer_as_it_is_written() {
+    let deep = "[".repeat(100_000) + &"]".repeat(100_000);
+    for id in [
+        "1.50e+03",
+        "-0",
+        "12345678901234567890123",
+        "\"\\u00e9\\/\"",
+        "{\"b\":1,\"a\" : [ ]}",
+        "null",
+        &deep,
+    ] {
+        let input = format!("{{\"id\":{id},\"plan\":\"\"}}\n{{\"plan\":1,\"id\": {id} }}\n");
+        let said = workbench_with(&["batch", "--network", &example("corridor")], input.as_bytes());
+        for (place, line) in said.out.lines().enumerate() {
+            let due = format!("{{\"line\":{},\"id\":{id},\"answer\":", place + 1);
+            assert!(line.starts_with(&due), "{}", &line[..line.len().min(200)]);
+        }
+        assert_eq!(said.out.lines().count(), 2);
+    }
+}
+
+/// Each byte of a line replaced: it is read or it is not, each time with one line of JSON as its answer.
+#[test]
+fn damaged_lines() {
+    let line = br#"{"id":[-1.5e3,null,{"a":true}],"plan":"P\t1\u00e9\ud83d\ude00\n"}"#;
+    let mut input = Vec::new();
+    for place in 0..line.len() {
+        for byte in (0..=0x7f).filter(|&byte| byte != b'\n') {
+            let mut damaged = line.to_vec();
+            damaged[place] = byte;
+            input.extend([&damaged[..], b"\n"].concat());
+        }
+    }
+    let said = workbench_with(&["batch", "--network", &example("corridor"), "--jobs", "4"], &input);
+    let unread = said
+        .out
+        .lines()
+        .filter(|line| line.contains("\"answer\":\"unread\""))
+        .count();
+    let refused = said
+        .out
+        .lines()
+        .filter(|line| line.contains("\"answer\":\"refused\""))
+        .count();
+    assert_eq!(unread + refused, line.len() * 127);
+    assert!(unread > 500 && refused > 500, "{unread} {refused}");
 }
 
 #[test]

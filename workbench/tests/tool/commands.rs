@@ -2,51 +2,94 @@
 
 use super::{corridor_with, example, scratch, workbench};
 use std::fs;
+use std::path::Path;
+
+/// What `workbench/run` prints before anything is built; `workbench/write-help` writes it.
+#[test]
+fn help_is_what_is_kept_of_it() {
+    let folder = Path::new(env!("CARGO_MANIFEST_DIR")).join("help");
+    let whole = workbench(&[]);
+    assert_eq!(whole.status, 0);
+    assert_eq!(workbench(&["-h"]).out, whole.out);
+    assert_eq!(whole.out, fs::read_to_string(folder.join("workbench.txt")).unwrap());
+    let mut commands = 0;
+    for entry in fs::read_dir(&folder).unwrap() {
+        let path = entry.unwrap().path();
+        let name = path.file_stem().unwrap().to_str().unwrap();
+        if name == "workbench" {
+            continue;
+        }
+        assert!(whole.out.contains(&format!("\n  {name} ")), "{name}");
+        let said = workbench(&[name, "--help"]);
+        assert_eq!(
+            (said.status, said.out),
+            (0, fs::read_to_string(&path).unwrap()),
+            "{name}"
+        );
+        commands += 1;
+    }
+    // beside `help` itself
+    let listed = whole
+        .out
+        .split_once("Commands:\n")
+        .unwrap()
+        .1
+        .split("\n\n")
+        .next()
+        .unwrap();
+    assert_eq!(listed.lines().count(), commands + 1);
+}
 
 #[test]
-fn usage_tells_the_commands_that_there_are() {
-    let said = workbench(&[]);
-    assert_eq!(said.status, 0);
-    for name in [
-        "check", "explain", "report", "wave", "states", "rank", "batch", "compare", "carry", "split", "listing",
-        "model", "solution", "sheet", "cells", "traces", "make",
+fn shells_complete_commands_and_options() {
+    for (shell, words) in [
+        ("bash", "--sheet"),
+        ("zsh", "--sheet"),
+        ("fish", "-l sheet"),
+        ("powershell", "--sheet"),
     ] {
-        assert!(said.out.contains(&format!("\n  {name} ")), "{name}");
+        let said = workbench(&["completions", shell]);
+        assert_eq!(said.status, 0);
+        assert!(said.out.contains("flows") && said.out.contains(words), "{shell}");
     }
-    assert_eq!(workbench(&["-h"]).out, said.out);
-    let said = workbench(&["rank", "--help"]);
-    assert_eq!(said.status, 0);
-    assert!(said
-        .out
-        .starts_with("usage: workbench rank [--csv] FOLDER.. | NETWORK PLAN..\njudges every plan"));
+    assert_eq!(workbench(&["completions", "tcsh"]).status, 2);
 }
 
 #[test]
 fn wrong_commands() {
-    let said = workbench(&["chek"]);
-    assert_eq!((said.status, said.out.as_str()), (2, ""));
-    assert!(said.err.contains("there is no command chek"));
+    for (wrong, meant) in [(&["chek"][..], "check"), (&["check", "--jsn", "a"], "--json")] {
+        let said = workbench(wrong);
+        assert_eq!((said.status, said.out.as_str()), (2, ""));
+        assert!(
+            said.err.starts_with("workbench: ") && said.err.contains(&format!("Did you mean '{meant}'?")),
+            "{}",
+            said.err
+        );
+    }
     for wrong in [
         &["check"][..],
         &["check", "a", "b", "c"],
         &["check", "a", "b", "--plan", "c"],
         &["check", "a", "--plan"],
-        &["check", "--jsn", "a"],
         &["check", "-"],
         &["rank"],
-        &["rank", "--cvs", "a"],
         &["carry", "a", "one", "b"],
+        &["carry", "a", "-1", "b"],
         &["carry", "a", "1"],
         &["split", "a", "1"],
         &["split", "a", "-o", "b"],
         &["split", "a", "0", "-o", "b"],
         &["split", "a", "1,33", "-o", "b"],
         &["split", "a", "7-5", "-o", "b"],
+        &["split", "a", "b", "1", "--plan", "c", "-o", "b"],
+        &["split", "a", "b", "1", "2", "-o", "b"],
         &["split", "a", "1", "-o"],
         &["make", "x", "y"],
         &["make", "1"],
         &["make", "1", "y", "--junctions", "8"],
+        &["make", "1", "y", "--junctions", "0"],
         &["make", "1", "y", "--steps", "121"],
+        &["make", "1", "y", "--plans", "0"],
         &["make", "1", "y", "--plans"],
         &["report"],
         &["wave"],
@@ -59,16 +102,23 @@ fn wrong_commands() {
         &["traces"],
         &["traces", "a", "b"],
         &["sheet", "a", "b", "c", "d"],
+        &["flows"],
+        &["flows", "a", "b", "--sheet", "c"],
+        &["flows", "a", "--plan", "b", "--sheet", "c"],
+        &["flows", "a", "--sheet"],
         &["model"],
         &["model", "a", "b"],
         &["model", "a", "-o"],
+        &["model", "a", "--phases"],
         &["solution", "a"],
         &["solution", "a", "b", "c"],
         &["solution", "a", "b", "--listing"],
+        &["batch", "a", "b"],
+        &["batch", "--jobs", "257"],
     ] {
         let said = workbench(wrong);
-        assert_eq!(said.status, 2, "{wrong:?}");
-        assert!(said.err.contains("usage: workbench"), "{wrong:?}: {}", said.err);
+        assert_eq!((said.status, said.out.as_str()), (2, ""), "{wrong:?}");
+        assert!(said.err.starts_with("workbench: "), "{wrong:?}: {}", said.err);
     }
     assert!(workbench(&["check", "nowhere"])
         .err

@@ -95,15 +95,15 @@ fn what_is_wrong_is_said() {
     for (arguments, words) in [
         (
             &["check", "--jsn", "a"][..],
-            "there is no option --jsn; usage: workbench check ",
+            "Found argument '--jsn' which wasn't expected",
         ),
         (
             &["check", "a", "--plan"],
-            "--plan has no value; usage: workbench check ",
+            "The argument '--plan <PLAN>' requires a value but none was supplied",
         ),
         (
             &["check", "-"],
-            "- is one text, and a network and a plan are due; usage",
+            "- is one text, and a network and a plan are due: a folder, NETWORK PLAN, or NETWORK --plan PLAN",
         ),
         (
             &["split", "a", "1,99", "-o", "b"],
@@ -111,8 +111,8 @@ fn what_is_wrong_is_said() {
         ),
         (&["split", "a", "1,x", "-o", "b"], "'x' is no number"),
         (&["split", "a", "7-5", "-o", "b"], "7 is above 5"),
-        (&["carry", "a", "one", "b"], "'one' is no boundary"),
-        (&["batch", "--jobs", "0"], "--jobs takes 1 to 256"),
+        (&["carry", "a", "one", "b"], "Invalid value 'one' for '<BOUNDARY>'"),
+        (&["batch", "--jobs", "0"], "0 is not in 1..=256"),
     ] {
         let said = workbench(arguments);
         assert_eq!((said.status, said.out.as_str()), (2, ""), "{arguments:?}");
@@ -150,17 +150,12 @@ fn versions() {
 
 #[test]
 fn help_before_anything_is_built_is_that_of_the_tool() {
-    let said = workbench(&[]);
-    assert_eq!(script("workbench/run", &[]).out, said.out);
-    let names = said.out.lines().filter_map(|line| line.strip_prefix("  "));
-    let names: Vec<&str> = names.filter(|line| !line.starts_with(' ')).collect();
-    assert!(names.len() > 10);
-    for name in names.iter().filter_map(|line| line.split(' ').next()) {
-        assert_eq!(
-            script("workbench/run", &[name, "-h"]).out,
-            workbench(&[name, "-h"]).out,
-            "{name}"
-        );
+    assert_eq!(script("workbench/run", &[]).out, workbench(&[]).out);
+    for name in ["check", "flows", "rank"] {
+        let help = workbench(&[name, "--help"]).out;
+        for arguments in [&[name, "-h"][..], &[name, "--help"], &["help", name]] {
+            assert_eq!(script("workbench/run", arguments).out, help, "{arguments:?}");
+        }
     }
 }
 
