@@ -10,6 +10,7 @@ import pytest
 from conftest import EXAMPLES
 
 from plancheck import (
+    Delays,
     Network,
     Order,
     Plan,
@@ -93,6 +94,19 @@ def test_a_vehicle_that_never_leaves_waits_to_the_end() -> None:
     assert delays.median.tolist() == [12.5] and delays.mean.tolist() == [12.5]
     outside = check(network, "P\t0\t0\nP\t1000\t0\n").delays_outside
     assert outside.greatest.tolist() == [15] and outside.mean.tolist() == [15]
+
+
+def test_delays_are_those_between_two_curves() -> None:
+    """Four stand at the start of the first link and leave evenly in 40 s: their middles leave at
+    5, 15, 25 and 35 s. On the second one vehicle leaves by halves: its middle when the first half
+    has left, at 10 s."""
+    times = np.array([0, 10, 20, 30, 40])
+    came = np.array([[4000, 1000]] * 5)
+    left = np.array([[0, 0], [1000, 500], [2000, 500], [3000, 1000], [4000, 1000]])
+    delays = Delays.between(times, came, left)
+    assert delays.vehicles.tolist() == [4, 1] and delays.mean[0] == 20
+    assert [delays.median[0], delays.third_quartile[0], delays.greatest[0]] == [20, 27.5, 35]
+    assert [delays.median[1], delays.greatest[1]] == [10, 10]
 
 
 def test_a_frame_has_vehicles_by_boundary_and_link(corridor: Path) -> None:

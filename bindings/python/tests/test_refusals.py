@@ -93,6 +93,17 @@ def test_fields_of_a_network(
     assert (told.number, [field.place for field in told.fields]) == (number, places)
 
 
+def test_fields_of_movements_whose_links_do_not_rise() -> None:
+    network = Network.read(EXAMPLES / "avenue")
+    network.movements[3:5] = reversed(network.movements[3:5])
+    told = refusal_of(network)
+    assert (told.number, told.item) == (5, 5)
+    assert [(field.place, field.name) for field in told.fields] == [
+        (1, "from link"),
+        (2, "to link"),
+    ]
+
+
 def test_fields_of_trams() -> None:
     network = Network.read(EXAMPLES / "wave")
     assert network.trams

@@ -3,7 +3,10 @@
 
 from __future__ import annotations
 
+import gzip
+import re
 import sys
+from collections import Counter
 from dataclasses import fields, replace
 from pathlib import Path
 
@@ -66,7 +69,7 @@ def test_routes_are_read(tmp_path: Path) -> None:
     path = tmp_path / "routes.rou.xml"
     path.write_text(
         '<routes><route id="r" edges="a b c"/><vehicle id="1" depart="3" route="r"/>'
-        '<vehicle id="2" depart="12.5"><route edges="a d"/></vehicle>'
+        '<vehicle id="2" depart="15"><route edges="a d"/></vehicle>'
         '<flow id="3" begin="0" end="20" number="4" route="r"/>'
         '<flow id="4" begin="0" end="20" vehsPerHour="360"><route edges="e d"/></flow></routes>'
     )
@@ -74,7 +77,8 @@ def test_routes_are_read(tmp_path: Path) -> None:
     assert demand.turns == {("a", "b"): 5, ("b", "c"): 5, ("a", "d"): 1, ("e", "d"): 2}
     assert demand.ends == {"c": 5, "d": 3} and demand.edges == set("abcde")
     times = np.arange(0, 30, 5)
-    assert demand.volumes("a", times).tolist() == [2000, 1000, 2000, 1000, 0]
+    # Who departs at a boundary comes in the step that begins there.
+    assert demand.volumes("a", times).tolist() == [2000, 1000, 1000, 2000, 0]
     assert demand.volumes("e", times).tolist() == [500, 500, 500, 500, 0]
     assert demand.volumes("d", times).tolist() == [0] * 5
 
@@ -167,6 +171,38 @@ def test_a_map_writes_a_network_and_names(made: Path) -> None:
     assert {link.mask for link in network.links if link.signal} == {1, 4}
 
 
+def test_the_lanes_of_an_edge_limit_all_that_leaves_it(made: Path) -> None:
+    network = map_of(made).network()
+    rates = Counter[int]()
+    for movement in network.movements:
+        rates[movement.origin] += movement.rate
+    # Rounded up, each by a thousandth at most.
+    assert all(530 <= rate <= 533 for rate in rates.values())
+
+
+def test_a_plan_becomes_programs_whose_last_phase_goes_on(made: Path) -> None:
+    mapping = map_of(made)
+    runs = mapping.runs(mapping.phases())["A0"]
+    assert runs[:4] == [(1, 35), (2, 5), (3, 35), (4, 5)] and runs[-1] == (2, 5 + 3600)
+    assert sum(seconds for _, seconds in mapping.runs(mapping.phases(), tail=0)["A0"]) == 600
+
+
+def test_who_cannot_enter_counts_as_who_drives(made: Path, tmp_path: Path) -> None:
+    """With all lights red nobody leaves: each vehicle counts from its departure to the end."""
+    routes, red = tmp_path / "routes.rou.xml", tmp_path / "red.add.xml"
+    make_routes(made / "net.xml", routes, 2.0, 0.0)
+    logic = (
+        '<tlLogic id="{}" type="static" programID="red" offset="0">'
+        f'<phase duration="999" state="{"r" * 12}"/></tlLogic>'
+    )
+    lights = "".join(logic.format(name) for name in map_of(made).signals)
+    red.write_text(f"<additional>{lights}</additional>")
+    departures = [float(one) for one in re.findall(r'depart="([\d.]+)"', routes.read_text())]
+    due = sum(600 - departure for departure in departures)
+    told = travel_time(made / "net.xml", routes, red, 600, seed=1)
+    assert told == pytest.approx(due, rel=0.005)
+
+
 def test_every_decision_is_told_and_counts(made: Path) -> None:
     told = map_of(made).told()
     for one in fields(Decisions):
@@ -182,6 +218,14 @@ def test_every_decision_is_told_and_counts(made: Path) -> None:
         assert map_of(made, **{name: value}).network().text() != plain, name
     told_apart = {"one_exit", "permissive"}
     assert set(changes) | told_apart == {one.name for one in fields(Decisions)}
+
+
+def test_files_may_be_packed(made: Path, tmp_path: Path) -> None:
+    for name in ("net.xml", "routes.rou.xml"):
+        packed = gzip.compress((made / name).read_bytes())
+        (tmp_path / f"{name}.gz").write_bytes(packed)
+    demand = Demand.of_routes(tmp_path / "routes.rou.xml.gz")
+    assert Map(tmp_path / "net.xml.gz", demand).network() == map_of(made).network()
 
 
 def test_exits_of_their_own_need_more_links(made: Path) -> None:
@@ -235,23 +279,68 @@ def test_left_turns_that_give_way_are_an_error(made: Path, tmp_path: Path) -> No
     assert counts(whole) and rates[1] < rates[0]
 
 
+def changed(folder: Path, target: Path, *changes: tuple[str, str]) -> Path:
+    """The made net with other words in the program of its first traffic light."""
+    text = (folder / "net.xml").read_text()
+    start = text.index("<tlLogic")
+    end = text.index("</tlLogic>", start)
+    program = text[start:end]
+    for old, new in changes:
+        assert old in program
+        program = program.replace(old, new)
+    path = target / "net.xml"
+    path.write_text(text[:start] + program + text[end:])
+    return path
+
+
+@pytest.mark.parametrize(
+    ("old", "new", "words"),
+    [
+        # The right turn of the edge from above is shut while its straight way is open.
+        ("GGgrrrGGgrrr", "rGgrrrGGgrrr", "edge top0A0, phase 1: it opens some of the movements"),
+        ("yyyrrryyyrrr", "syyrrryyyrrr", "edge top0A0, phase 2: it opens some of the movements"),
+        ("GGgrrrGGgrrr", "ggGrrrGGGrrr", "edge top0A0, phase 1: to A0bottom0 the green gives way"),
+        ("GGgrrrGGgrrr", "rrrrrrrrrrrr", "no phase of traffic light A0 opens it"),
+        ('duration="35"', 'duration="35.5"', "traffic light A0: 35.5 s are no whole seconds"),
+        ('duration="5" ', 'duration="5" next="1 3" ', "traffic light A0, phase 2: it names its next"),
+    ],
+)  # fmt: skip
+def test_what_a_mask_cannot_say_is_an_error(
+    made: Path, tmp_path: Path, old: str, new: str, words: str
+) -> None:
+    net = changed(made, tmp_path, (old, new))
+    with pytest.raises(SumoError) as error:
+        Map(net, Demand.of_routes(made / "routes.rou.xml"))
+    assert words in str(error.value)
+
+
+def test_programs_of_another_kind_are_an_error(made: Path) -> None:
+    mapping = map_of(made)
+    own = mapping.programs["A0"]
+    for programs, words in (
+        ({"E0": own}, "traffic light E0: the net has none"),
+        ({"A0": replace(own, states=own.states[2:] + own.states[:2])}, "shows? other states"),
+        ({"A0": own.timed((40, 40), 0)}, "traffic light A0 has 4 phases and 2 durations"),
+    ):
+        with pytest.raises(SumoError, match=words):
+            mapping.network(programs)
+    with pytest.raises(SumoError, match="share_grain = 30"):
+        Decisions(share_grain=30)
+
+
 # Running simulations.
 
 
 @needs_flows
 def test_a_simulation_shows_plans_and_is_planned_anew(made: Path, tmp_path: Path) -> None:
-    mapping = map_of(made, lost_time=4.0)
+    """With more vehicles than can enter, so that some wait outside."""
+    routes, additional = tmp_path / "routes.rou.xml", tmp_path / "first.add.xml"
+    make_routes(made / "net.xml", routes, 3.0, 0.0)
+    mapping = Map(made / "net.xml", Demand.of_routes(routes), Decisions(lost_time=4.0))
     (first,) = make_programs(mapping.programs, 1, seed=5, splits=True)
     phases = mapping.phases(first)
-    mapping.write(phases, tmp_path / "first.add.xml")
-    files = [
-        "-n",
-        made / "net.xml",
-        "-r",
-        made / "routes.rou.xml",
-        "-a",
-        tmp_path / "first.add.xml",
-    ]
+    mapping.write(phases, additional)
+    files = ["-n", made / "net.xml", "-r", routes, "-a", additional]
     command = ["sumo", *map(str, files), "--no-step-log", "--no-warnings"]
     traci.start(command, numRetries=60, label="planned")
     connection = traci.getConnection("planned")
@@ -259,10 +348,9 @@ def test_a_simulation_shows_plans_and_is_planned_anew(made: Path, tmp_path: Path
         live = Live(mapping, connection, first)
         drive(live, phases, 100)
         network = live.network(60)
-        on_road = connection.vehicle.getIDCount() + len(connection.simulation.getPendingVehicles())
-        entered = sum(sum(past.entered) for past in network.past)
-        placed = sum(link.standing + link.waiting for link in network.links) + entered
-        assert placed == 1000 * on_road
+        pending = connection.simulation.getPendingVehicles()
+        assert sum(link.waiting for link in network.links) == 1000 * len(pending) > 0
+        assert placed(network) == on_links(connection, mapping)
         # What the signals show is what the program shows at second 100.
         due = [first[name].signal(100, mapping.decisions) for name in mapping.signals]
         assert network.signals == due
@@ -280,6 +368,22 @@ def test_a_simulation_shows_plans_and_is_planned_anew(made: Path, tmp_path: Path
         assert check(live.network(30), flows(live.network(30), plan[12:42])).let_out > 0
     finally:
         connection.close()
+
+
+def placed(network: Network) -> list[int]:
+    """The vehicles on each link of a network."""
+    entered = [sum(volumes) for volumes in zip(*(past.entered for past in network.past))]
+    return [(link.standing + more) // 1000 for link, more in zip(network.links, entered)]
+
+
+def on_links(connection: object, mapping: Map) -> list[int]:
+    """The vehicles on each link in SUMO; who crosses a junction is on the one behind it."""
+    found: Counter[int] = Counter()
+    vehicles = connection.vehicle  # type: ignore[attr-defined]
+    for name in vehicles.getIDList():
+        place = vehicles.getRouteIndex(name) + vehicles.getRoadID(name).startswith(":")
+        found[mapping.link_of(vehicles.getRoute(name)[place])] += 1
+    return [found[number] for number in range(1, len(mapping.links) + 1)]
 
 
 def drive(live: Live, plan: Plan, seconds: int) -> None:

@@ -11,6 +11,7 @@ class SumoError(ValueError):
 
 
 Value = TypeVar("Value")
+_WHOLE = 1000  # thousandths that the shares of a link sum to
 
 
 def decided(default: Value, meaning: str) -> Value:
@@ -46,6 +47,10 @@ class Decisions:
         None,
         "part of the saturation flow of a connection that must give way; none: it is an error",
     )
+
+    def __post_init__(self) -> None:
+        if not 1 <= self.share_grain <= _WHOLE or _WHOLE % self.share_grain:
+            raise SumoError(f"share_grain = {self.share_grain} does not part {_WHOLE} evenly")
 
     def told(self) -> list[str]:
         """A line for each decision: its name, its value and what it means."""

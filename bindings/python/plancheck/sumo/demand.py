@@ -4,16 +4,14 @@ from __future__ import annotations
 
 import xml.etree.ElementTree as ET
 from collections import defaultdict
-from collections.abc import Callable, Iterator
+from collections.abc import Callable
 from dataclasses import dataclass, field
-from os import PathLike
 
 import numpy as np
 from numpy.typing import NDArray
 
+from ._xml import File, root_of
 from .decisions import SumoError
-
-File = str | PathLike[str]
 
 
 @dataclass
@@ -35,7 +33,7 @@ class Demand:
         """Of a file of vehicles and flows with routes (`.rou.xml`)."""
         demand = cls()
         named: dict[str, list[str]] = {}
-        for element in ET.parse(path).getroot():
+        for element in root_of(path):
             if element.tag == "route":
                 named[element.get("id", "")] = element.get("edges", "").split()
             elif element.tag in ("vehicle", "flow"):
@@ -50,12 +48,12 @@ class Demand:
         """Of what jtrrouter takes: flows with the edge that they start from, and edge relations
         with counts or probabilities. The relations of all intervals are added up."""
         demand = cls()
-        for flow in ET.parse(flows).getroot().iter("flow"):
+        for flow in root_of(flows).iter("flow"):
             edge = flow.get("from")
             if edge is None:
                 raise SumoError(f"flow {flow.get('id')} has no edge that it starts from")
             demand.starts[edge].append(_when(flow))
-        for relation in ET.parse(turns).getroot().iter("edgeRelation"):
+        for relation in root_of(turns).iter("edgeRelation"):
             weight = relation.get("count") or relation.get("probability")
             if weight is None:
                 pair = relation.get("from"), relation.get("to")
@@ -123,9 +121,3 @@ _RATES: dict[str, Callable[[float, float], float]] = {
     "period": lambda period, seconds: seconds / period,
     "probability": lambda rate, seconds: rate * seconds,
 }
-
-
-def departures(path: File) -> Iterator[tuple[float, list[str]]]:
-    """When each vehicle of a file of routes departs, and its edges."""
-    for vehicle in ET.parse(path).getroot().iter("vehicle"):
-        yield float(vehicle.get("depart", "")), _route_of(vehicle, {})

@@ -13,7 +13,7 @@ from ..plans import Plan
 from ..workbench import flows
 from .decisions import SumoError
 from .nets import Map, Programs
-from .programs import Program
+from .programs import PROGRAM_ID, Program
 
 _VEHICLE = 1000
 _ROAD = 0x50  # traci.constants.VAR_ROAD_ID
@@ -114,7 +114,7 @@ class Live:
                 lights.Phase(seconds, states[phase - 1], seconds, seconds, (), str(phase))
                 for phase, seconds in runs
             ]
-            logic = lights.Logic(f"plan-{self.now}", 0, 0, phases)
+            logic = lights.Logic(f"{PROGRAM_ID}-{self.now}", 0, 0, phases)
             lights.setProgramLogic(name, logic)
 
     # What is watched.
@@ -155,9 +155,10 @@ class Live:
         return _Light(signal.shown, self.now - signal.shown_for, self.now - signal.cycle_clock)
 
     def _phase(self, name: str) -> int:
-        """The phase that a light shows: a program of `show` has it as the name of its phase."""
-        told = str(self.connection.trafficlight.getPhaseName(name))
-        return int(told if told.isdigit() else self.connection.trafficlight.getPhase(name) + 1)
+        """The phase that a light shows: programs that were written here have it as a name."""
+        lights = self.connection.trafficlight
+        own = str(lights.getProgram(name)).startswith(PROGRAM_ID)
+        return int(lights.getPhaseName(name) if own else lights.getPhase(name) + 1)
 
     def _shows(self, light: _Light, phase: int, second: int) -> None:
         if phase != light.phase:

@@ -7,11 +7,10 @@ say is an error (`SumoError`) that names the edge and the phase.
 from __future__ import annotations
 
 import math
-import xml.etree.ElementTree as ET
 from collections import Counter, defaultdict
 from collections.abc import Mapping, Sequence
 from dataclasses import dataclass
-from os import PathLike, fspath
+from os import fspath
 from typing import Any
 
 import numpy as np
@@ -20,13 +19,17 @@ from .. import calls
 from ..networks import Link, Movement, Network, Signal, Step, mask_of
 from ..plans import Plan
 from ..workbench import flows
+from ._xml import File
 from .decisions import Decisions, SumoError
 from .demand import Demand
-from .programs import Program, hold_grid, is_yellow, write_programs
+from .programs import GIVES_WAY, OPEN, YELLOW, Program, hold_grid, logics_of, write_programs
 
 Programs = Mapping[str, Program]
 
 EXIT = "exits"
+# States of a connection without a traffic light at which vehicles give way: minor, stop, equal,
+# all-way stop, zipper, and a traffic light that is off.
+_MINOR = "ms=wZo"
 _UNLIMITED = 2_000_000_000
 _GREATEST_RATE = 10_000
 _WHOLE = 1000
@@ -58,15 +61,13 @@ class Map:
     `demand` says which connections are used; the others are left out, with their edges.
     """
 
-    def __init__(
-        self, net: str | PathLike[str], demand: Demand, decisions: Decisions = Decisions()
-    ) -> None:
+    def __init__(self, net: File, demand: Demand, decisions: Decisions = Decisions()) -> None:
         self.decisions, self.demand = decisions, demand
         self.notes: list[str] = []
-        self.net = _sumolib().net.readNet(fspath(net), withPrograms=True)
+        self.net = _sumolib().net.readNet(fspath(net))
         self._edges = self._used_edges()
         self._turns = self._used_turns()
-        self.programs: dict[str, Program] = self._programs()
+        self.programs: dict[str, Program] = self._programs(net)
         self.signals = list(self.programs)
         """The traffic lights, in the order of the signals."""
         exits = [edge for edge in self._edges if edge not in self._turns]
@@ -122,17 +123,32 @@ class Map:
                 turns[destination] = _turn(share, outgoing[destination])
         return turns
 
-    def _programs(self) -> dict[str, Program]:
+    def _programs(self, net: File) -> dict[str, Program]:
         every = [turn for turns in self._turns.values() for turn in turns.values()]
-        lights = {name for turn in every for name, _ in turn.lights}
+        logics = logics_of(net)
         programs = {}
-        for light in sorted(self.net.getTrafficLights(), key=lambda light: str(light.getID())):
-            name = light.getID()
-            if name in lights:
-                first = next(iter(light.getPrograms().values()))
-                programs[name] = Program.of(ET.fromstring(first.toXML(name)))
-                hold_grid(name, programs[name], self.decisions)
+        for name in sorted({name for turn in every for name, _ in turn.lights}):
+            if name not in logics:
+                raise SumoError(f"traffic light {name} has no program in the net")
+            first = logics[name][0]
+            programs[name] = Program.of(first)
+            hold_grid(name, programs[name], self.decisions)
+            if len(logics[name]) > 1:
+                taken = first.get("programID")
+                self.notes.append(f"traffic light {name}: of its programs {taken} is taken")
         return programs
+
+    def _with(self, programs: Programs | None) -> Programs:
+        """The net's programs, some of them with other times."""
+        for name, program in (programs or {}).items():
+            if name not in self.programs:
+                raise SumoError(f"traffic light {name}: the net has none with edges that are used")
+            if program.states != self.programs[name].states:
+                raise SumoError(
+                    f"traffic light {name}: its phases show other states than the net's"
+                )
+            hold_grid(name, program, self.decisions)
+        return self.programs | dict(programs or {})
 
     # What opens an edge.
 
@@ -156,25 +172,23 @@ class Map:
         return self.signals.index(light) + 1, mask_of(opened)
 
     def _is_open(self, edge: str, phase: int, state: str) -> bool:
-        green = "GgyY" if self.decisions.yellow_opens and is_yellow(state) else "Gg"
-        shown = {
-            destination: {state[place] for _, place in turn.lights}
+        green = OPEN + YELLOW if self.decisions.yellow_opens else OPEN
+        shown = [
+            (destination, state[place])
             for destination, turn in self._turns[edge].items()
-        }
-        opened = {destination: bool(letters & set(green)) for destination, letters in shown.items()}
-        if len(set(opened.values())) > 1:
-            words = {True: "open", False: "shut"}
-            said = ", ".join(f"{to} {words[is_open]}" for to, is_open in opened.items())
+            for _, place in turn.lights
+        ]
+        opened = {letter in green for _, letter in shown}
+        if len(opened) > 1:
+            said = ", ".join(f"to {destination} {letter!r}" for destination, letter in shown)
             raise SumoError(
                 f"edge {edge}, phase {phase}: it opens some of the movements ({said}); a mask "
                 "opens a link as a whole, so that the edge must be two"
             )
-        for destination, letters in shown.items():
-            permitted = "g" in letters
-            self._hold_permissive(
-                permitted, f"edge {edge}, phase {phase}: to {destination} the green gives way"
-            )
-        return all(opened.values())
+        for destination, letter in shown:
+            words = f"edge {edge}, phase {phase}: to {destination} the green gives way"
+            self._hold_permissive(letter in GIVES_WAY, words)
+        return True in opened
 
     def _hold_permissive(self, permitted: bool, words: str) -> None:
         if permitted and self.decisions.permissive is None:
@@ -187,7 +201,7 @@ class Map:
         if not turn.lights:
             return turn.minor
         states = [(self.programs[name].states, place) for name, place in turn.lights]
-        return any(state[place] == "g" for shown, place in states for state in shown)
+        return any(state[place] in GIVES_WAY for shown, place in states for state in shown)
 
     def _hold_limits(self) -> None:
         movements = sum(len(group) for group in map(self._movements_from, self._turns))
@@ -207,10 +221,7 @@ class Map:
     def network(self, programs: Programs | None = None) -> Network:
         """The network, its signals as these programs, or the net's own, show them before the
         horizon."""
-        programs = self.programs | dict(programs or {})
-        for name, program in programs.items():
-            hold_grid(name, program, self.decisions)
-        begin = self.decisions.begin
+        programs, begin = self._with(programs), self.decisions.begin
         signals = [programs[name].signal(begin, self.decisions) for name in self.signals]
         return self.network_from(begin, self.decisions.steps, signals)
 
@@ -288,7 +299,7 @@ class Map:
 
     def phases(self, programs: Programs | None = None) -> Plan:
         """A plan with the phases of the programs, in which nobody moves."""
-        programs = self.programs | dict(programs or {})
+        programs = self._with(programs)
         plan = Plan.hold(self.network(programs))
         for n in range(self.decisions.steps):
             second = self.decisions.begin + n * self.decisions.step
@@ -325,7 +336,7 @@ class Map:
             for place, name in enumerate(self.signals)
         }
 
-    def write(self, plan: Plan, path: str | PathLike[str], tail: int = 3600) -> None:
+    def write(self, plan: Plan, path: File, tail: int = 3600) -> None:
         """Writes an additional file with a static program for each traffic light, that shows the
         phases of a plan from the begin of the horizon on."""
         write_programs(self.runs(plan, tail), self.programs, path, self.decisions.begin)
@@ -334,7 +345,7 @@ class Map:
 def _turn(share: float, connections: Sequence[Any]) -> Turn:
     lights = [(one.getTLSID(), one.getTLLinkIndex()) for one in connections if one.getTLSID()]
     lanes = {one.getFromLane().getIndex() for one in connections}
-    minor = any(one.getState() in "ms=wo" for one in connections)
+    minor = any(one.getState() in _MINOR for one in connections)
     return Turn(share, len(lanes), tuple(lights), minor)
 
 

@@ -5,12 +5,17 @@ from __future__ import annotations
 import xml.etree.ElementTree as ET
 from collections.abc import Mapping
 from dataclasses import dataclass, replace
-from os import PathLike
 
 from ..networks import Phase, Signal
+from ._xml import File, root_of
 from .decisions import Decisions, SumoError
 
 MAX_PHASES = 8
+# Letters of a state: open, of these such as must give way (`s`: after a stop; `o`: the light is
+# off), and yellow. Others are red.
+OPEN, GIVES_WAY, YELLOW = "GgsoO", "gso", "yY"
+# What the names of programs that are written here begin with.
+PROGRAM_ID = "plancheck"
 
 
 @dataclass(frozen=True)
@@ -47,12 +52,10 @@ class Program:
         )
 
     @classmethod
-    def read(cls, path: str | PathLike[str]) -> dict[str, Program]:
-        """The programs of an additional file, by their traffic lights; the first of each."""
-        programs: dict[str, Program] = {}
-        for logic in ET.parse(path).getroot().iter("tlLogic"):
-            programs.setdefault(logic.get("id", ""), cls.of(logic))
-        return programs
+    def read(cls, path: File) -> dict[str, Program]:
+        """The programs of a net or an additional file by their traffic lights; the first of
+        each."""
+        return {name: cls.of(logics[0]) for name, logics in logics_of(path).items()}
 
     def timed(self, durations: tuple[int, ...], offset: int) -> Program:
         """The same phases with other times."""
@@ -96,7 +99,7 @@ class Program:
 
     def _limits(self, place: int, decisions: Decisions) -> Phase:
         duration = self.durations[place]
-        if not is_green(self.states[place]) or is_yellow(self.states[place]):
+        if not is_green(self.states[place]):
             return Phase(duration, duration)
         least = self.least[place] if self.least else None
         greatest = self.greatest[place] if self.greatest else None
@@ -107,13 +110,16 @@ class Program:
 
 
 def is_green(state: str) -> bool:
-    """Whether a phase opens a connection: one that shows yellow too is between two greens."""
-    return any(letter in "Gg" for letter in state)
+    """Whether a phase opens a connection and is none between two greens, which shows yellow."""
+    return any(letter in OPEN for letter in state) and not any(one in YELLOW for one in state)
 
 
-def is_yellow(state: str) -> bool:
-    """Whether a phase shows yellow."""
-    return any(letter in "yY" for letter in state)
+def logics_of(path: File) -> dict[str, list[ET.Element]]:
+    """The tlLogic elements of a net or an additional file, by their traffic lights."""
+    logics: dict[str, list[ET.Element]] = {}
+    for logic in root_of(path).iter("tlLogic"):
+        logics.setdefault(logic.get("id", ""), []).append(logic)
+    return logics
 
 
 def _limit(phase: ET.Element, name: str) -> int | None:
@@ -124,7 +130,10 @@ def _limit(phase: ET.Element, name: str) -> int | None:
 
 
 def hold_grid(name: str, program: Program, decisions: Decisions) -> None:
-    """Each switch must be on a boundary."""
+    """Each phase has a duration, and each switch is on a boundary."""
+    if len(program.durations) != len(program.states):
+        counts = f"{len(program.states)} phases and {len(program.durations)} durations"
+        raise SumoError(f"traffic light {name} has {counts}")
     if not 2 <= len(program.states) <= MAX_PHASES:
         count = len(program.states)
         raise SumoError(f"traffic light {name} has {count} phases; a signal has 2 to {MAX_PHASES}")
@@ -144,16 +153,15 @@ def hold_grid(name: str, program: Program, decisions: Decisions) -> None:
 def write_programs(
     runs: Mapping[str, list[tuple[int, int]]],
     programs: Mapping[str, Program],
-    path: str | PathLike[str],
+    path: File,
     begin: int = 0,
-    program_id: str = "plan",
 ) -> None:
     """Writes an additional file in which each traffic light shows phases (from 1), each for so
     many seconds, from a second on."""
     root = ET.Element("additional")
     for name, shown in runs.items():
         logic = ET.SubElement(
-            root, "tlLogic", id=name, type="static", programID=program_id, offset=str(begin)
+            root, "tlLogic", id=name, type="static", programID=PROGRAM_ID, offset=str(begin)
         )
         for phase, seconds in shown:
             state = programs[name].states[phase - 1]

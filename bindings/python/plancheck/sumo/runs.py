@@ -8,15 +8,14 @@ import subprocess
 import xml.etree.ElementTree as ET
 from collections.abc import Iterator
 from math import inf, nan
-from os import PathLike, fspath
+from os import fspath
 from pathlib import Path
 from tempfile import TemporaryDirectory
 from typing import NamedTuple
 
+from ._xml import File, root_of
 from .decisions import SumoError
 from .nets import Map
-
-File = str | PathLike[str]
 
 
 def run(net: File, routes: File, seconds: int, *options: str) -> None:
@@ -43,7 +42,7 @@ def travel_time(net: File, routes: File, programs: File, seconds: int, seed: int
         summary = Path(folder, "summary.xml")
         options = ["-a", fspath(programs), "--seed", str(seed), "--summary-output", str(summary)]
         run(net, routes, seconds, *options)
-        steps = ET.parse(summary).getroot()
+        steps = root_of(summary)
         return sum(float(step.get("running", 0)) + float(step.get("waiting", 0)) for step in steps)
 
 
