@@ -31,4 +31,5 @@ pub mod Once
 pub mod Hold
 pub mod Cycle
 pub mod CycleWitness
+pub mod States
 pub mod Promises

@@ -77,8 +77,8 @@ unfolding nth_next next
 reached P k zero l h = inl (omega arith)
 reached P k (suc d) l h = reached-next P k d (nth_next P d k) l h (reached P k d l (omega arith))
 
-pub phase-order : PhaseOrder
-phase-order =
+pub phase_order : PhaseOrder
+phase_order =
     record {
       comes-again = λ P k h l. ⊎_elim (λ i. absurd (omega arith)) (λ i. omega arith) (reached P k P l (le_refl _));
       no-earlier = λ P k d h l m u e. ⊎_elim (λ i. omega arith) (λ i. omega arith) (reached P k d l (omega arith));

@@ -74,6 +74,7 @@ module _ (network plan : List Line) where
         holds-accepted = λ h. accepted-of-passes (verdict c) (laws.passes-of-hold c h);
         refused-first = λ r h. laws.refused-first c r (refused-of-refused (verdict c) r h);
         refused-number = λ r h. refused-number plan_numbers c r (plan-numbered network plan (length old)) (refused-of-refused (verdict c) r h);
+        kept = λ t h. accepted-plan network plan (length old) (holds t h);
         guaranteed = λ t h. rw (passes-of-accepted (verdict c) t h).1 (guarantees network plan (accepted-plan network plan (length old) (holds t h)));
         ledger = ledger-promises network plan old;
       }

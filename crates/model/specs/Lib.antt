@@ -3,6 +3,7 @@ pub mod Signals
 pub mod Flows
 pub mod Rules
 pub mod Table
+pub mod Accepted
 pub mod Calls
 pub mod Hold
 pub mod Report

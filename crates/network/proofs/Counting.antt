@@ -20,9 +20,9 @@ use Rattle.base_search.specs.Checks.{Verdict}
 module _ {text : List ℕ} {signals : List Signal} {read : Result NetworkTables Refusal} (got : TablesJudged (network_checks (lines text)) (LoadedFrom text signals) read) where
   -- all that the call promises of its answer
   abbrev pub Promised : Result Counts Refusal → Type 0
-  Promised answer = (answer ≡ count_network (lines text)) × (CountPromises answer × PaddingIgnored text (λ padded. answer ≡ count_network (lines padded)))
+  Promised answer = (answer ≡ count_network (lines text)) × (CountPromises (lines text) answer × PaddingIgnored text (λ padded. answer ≡ count_network (lines padded)))
 
-  promised : (v : Verdict) (answer : Result Counts Refusal) → check_network (lines text) ≡ v → answer ≡ counts_answer (lines text) v → CountPromises answer → Promised answer
+  promised : (v : Verdict) (answer : Result Counts Refusal) → check_network (lines text) ≡ v → answer ≡ counts_answer (lines text) v → CountPromises (lines text) answer → Promised answer
   promised v answer e a kept =
       let whole : count_network (lines text) ≡ counts_answer (lines text) v = unfold count_network in ap (counts_answer (lines text)) e in
       let told = a ∙ sym whole in
@@ -34,8 +34,10 @@ module _ {text : List ℕ} {signals : List Signal} {read : Result NetworkTables 
       let held : CountsHold (lines text) tables.reading.counts = rw from.same-text at from.loaded.counted in
       let same : Ok tables.reading.counts ≡ counts_answer (lines text) (Ok tt) =
       unfold counts_answer in rw (← held.links) (rw (← held.signals) (rw (← held.movements) (rw (← held.steps) (rw (← held.trams) (rw (← held.past) refl))))) in
-      promised (Ok tt) _ (unfold check_network in got.passed _ e) same
+      let passes : check_network (lines text) ≡ Ok tt = unfold check_network in got.passed _ e in
+      promised (Ok tt) _ passes same
       (record {
+        valid = λ counts q. (network-promises (lines text)).valid passes;
         few = λ counts q. let it : tables.reading.counts ≡ counts = cc in rw (← it) held.few;
         refused-number = λ r q. let z : ◌≡◌ {A = ℕ} 0 1 = cc in absurd (omega arith);
       })
@@ -45,6 +47,7 @@ module _ {text : List ℕ} {signals : List Signal} {read : Result NetworkTables 
       let refused : check_network (lines text) ≡ Err r = unfold check_network in got.refused _ e in
       promised (Err r) _ refused (unfold counts_answer in refl)
       (record {
+        valid = λ counts q. let z : ◌≡◌ {A = ℕ} 0 1 = cc in absurd (omega arith);
         few = λ counts q. let z : ◌≡◌ {A = ℕ} 0 1 = cc in absurd (omega arith);
         refused-number = λ other q. let same : r ≡ other = cc in rw (← same) ((network-promises (lines text)).refused-number r refused);
       })
@@ -53,7 +56,7 @@ module _ {text : List ℕ} {signals : List Signal} {read : Result NetworkTables 
 module _ (text : List ℕ) where
   -- all that the check promises of its verdict
   abbrev pub Checked : Verdict → Type 0
-  Checked v = (v ≡ check_network (lines text)) × (NetworkPromises v × PaddingIgnored text (λ padded. v ≡ check_network (lines padded)))
+  Checked v = (v ≡ check_network (lines text)) × (NetworkPromises (lines text) v × PaddingIgnored text (λ padded. v ≡ check_network (lines padded)))
 
   checked : {v : Verdict} → v ≡ check_network (lines text) → Checked v
   checked e = (e, (rw e (network-promises (lines text)), λ padded same. e ∙ ap check_network (same_lines text padded same)))

@@ -170,7 +170,7 @@ pub fn read_start<'a>(
 // Counts what a valid network has: refusals 1 to 6, 28 and 30.
 pub fn count_network(text: &[u8]) -> Result<Counts, Refusal>
     ensures value { result ≡ count_network (lines text.now) }
-    ensures count_promises { CountPromises result }
+    ensures count_promises { CountPromises (lines text.now) result }
     ensures padding_ignored { PaddingIgnored text.now (λ padded. result ≡ count_network (lines padded)) }
 {
     let mut signals = [Signal::default(); MAX_SIGNALS];
@@ -182,7 +182,7 @@ pub fn count_network(text: &[u8]) -> Result<Counts, Refusal>
 // Check a network: refusals 1 to 6, 28 and 30.
 pub fn check_network(text: &[u8]) -> Result<(), Refusal>
     ensures value { result ≡ check_network (lines text.now) }
-    ensures network_promises { NetworkPromises result }
+    ensures network_promises { NetworkPromises (lines text.now) result }
     ensures padding_ignored { PaddingIgnored text.now (λ padded. result ≡ check_network (lines padded)) }
 {
     count_network(text)?;

@@ -4,13 +4,14 @@ use Rattle.base_laws.proofs.Kit.{ℕ, suc, ◌+◌, ◌*◌, ◌-◌, ◌/◌, �
 use Rattle.base_search.specs.Checks.{Hold}
 use Rattle.base_search.proofs.Laws.{passes-of-hold}
 use Rattle.text_reader.specs.Lines.{Line}
-use Rattle.model.specs.declared.Totals.{Totals}
+use Rattle.model.specs.declared.LinkState.{LinkState}
+use Rattle.base_search.specs.declared.Refusal.{Refusal}
 use Rattle.base_laws.specs.Sum.{sum}
 use Rattle.base_laws.specs.Test.{◌or◌}
 use Rattle.model.specs.Network.{link_count, step_count, past_count, on_timeline, travel_time, standing, timeline_length, time, timeline_time, arrival_step, elapsed}
 use Rattle.model.specs.Flows.{timeline_inflow, timeline_entered, entered, left, has_arrived, held}
 use Rattle.model.specs.Table.{network_checks, ledger_checks, plan_checks}
-use Rattle.model.specs.Calls.{check_plan, written, ledger_after, ledger_entered, ledger_left, end_step, end_length, end_elapsed, arrival_entered, scaled_arrived, rises_inside, link_state}
+use Rattle.model.specs.Calls.{written, ledger_after, ledger_entered, ledger_left, end_step, end_length, end_elapsed, arrival_entered, scaled_arrived, rises_inside, link_state}
 use Rattle.model.proofs.Accepted.{AcceptedPlan, accepted-plan}
 use Rattle.model.proofs.Times.{on-timeline-mono, on-timeline-suc, arrival-step-le, arrival-step-lt, arrival-in-plan, arrival-in-past, elapsed-early}
 use Rattle.model.proofs.Timeline.{timeline-entered-suc, past-entered}
@@ -19,13 +20,12 @@ use Rattle.model.proofs.Flow.{lasts, scaled-entered, left-arrived}
 use Rattle.model.proofs.Limits.{counts, link-limits, timeline-lasts, first-lasts}
 use Rattle.model.proofs.Rows.{written_at, length-written}
 use Rattle.model.proofs.Written.{rows_all}
-use Rattle.model.proofs.Promises.{promises}
 use Rattle.step_arrivals.specs.Arrivals.{scaled_in}
 use Rattle.plan_link_state.specs.declared.Arrived.{Arrived}
-use Rattle.plan_link_state.specs.State.{PlanState, arrived_in}
+use Rattle.plan_link_state.specs.State.{PlanState, PlanStates, arrived_in}
 use Rattle.plan_link_state.proofs.Ledger.{arrived-of, state-told}
 use Rattle.plan_link_state.proofs.State.{state-is}
-use Rattle.std.specs.Prelude.{Ok}
+use Rattle.std.specs.Prelude.{Result, Ok}
 
 either : (b : Bool) → b or true ≡ true
 unfolding ◌or◌
@@ -169,8 +169,7 @@ module _ (network plan : List Line) (old : List ℕ) (holds : Hold (plan_checks 
           whole = omega (arith, low, high);
         }
 
--- after the check of a plan that is accepted, whatever the ledger held before
-pub accepted-state : (network plan : List Line) (old : List ℕ) (t : Totals) → check_plan network plan (length old) ≡ Ok t
-    → (boundary link : ℕ) → boundary ≤ step_count network → 1 ≤ link → link ≤ link_count network
-    → PlanState network plan boundary (link - 1) (link_state network (ledger_after network plan old) boundary link)
-accepted-state network plan old t e = plan-state network plan old ((promises network plan old).accepted-holds t e)
+-- the answer of the call, whatever the ledger held before the plan's check
+pub plan-states : (network : List Line) (ledger : List ℕ) (boundary link : ℕ) {answer : Result LinkState Refusal} → answer ≡ link_state network ledger boundary link
+    → PlanStates network ledger boundary link answer
+plan-states network ledger boundary link told plan before holds is early first last = rw (told, is) (plan-state network plan before holds boundary link early first last)

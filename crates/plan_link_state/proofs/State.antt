@@ -12,7 +12,7 @@ use Rattle.model.specs.Network.{link_count, step_count}
 use Rattle.model.specs.Table.{network_checks, ledger_checks}
 use Rattle.model.specs.Calls.{state_of, ledger_entered, ledger_left, end_step, end_length, scaled_arrived, rises_inside, ledger_arrived, state_checks, link_answer, link_state}
 use Rattle.model.specs.Guarantees.{StatePromises}
-use Rattle.model.proofs.Numbers.{state-promises}
+use Rattle.model.proofs.States.{state-promises}
 use Rattle.network_tables.specs.declared.NetworkTables.{NetworkTables}
 use Rattle.network_tables.specs.Fields.{entered_at, left_at, RowHeld}
 use Rattle.network.specs.Loading.{TablesLoaded}
@@ -153,7 +153,7 @@ module _ {tables : NetworkTables} (t : Tabled tables) (ledger : List ℕ) (bound
 abbrev pub Promised : List ℕ → List ℕ → ℕ → ℕ → Result LinkState Refusal → Type 0
 Promised text ledger boundary link answer =
     (answer ≡ link_state (lines text) ledger boundary link)
-    × (StatePromises answer × PaddingIgnored text (λ padded. answer ≡ link_state (lines padded) ledger boundary link))
+    × (StatePromises (lines text) ledger boundary link answer × PaddingIgnored text (λ padded. answer ≡ link_state (lines padded) ledger boundary link))
 
 pub promised : (text ledger : List ℕ) (boundary link : ℕ) {answer : (Result LinkState Refusal)} → answer ≡ link_state (lines text) ledger boundary link → Promised text ledger boundary link answer
 promised text ledger boundary link e =

@@ -6,8 +6,8 @@ use Rattle.text_reader.specs.Reading.{Starts}
 use Rattle.base_laws.specs.Test.{◌and◌}
 use Rattle.model.specs.Network.{link_count, step_count, past_count, on_timeline, timeline_line, travel_time, standing, time, timeline_time, arrival_step}
 use Rattle.model.specs.Flows.{timeline_entered, left, has_arrived, held}
-use Rattle.model.specs.Table.{network_checks}
-use Rattle.model.specs.Calls.{state_of, end_length, scaled_arrived, rises_inside}
+use Rattle.model.specs.Table.{network_checks, plan_checks}
+use Rattle.model.specs.Calls.{state_of, end_length, scaled_arrived, rises_inside, ledger_after}
 use Rattle.network_tables.specs.declared.NetworkTables.{NetworkTables}
 use Rattle.network_tables.specs.Fields.{entered_at}
 use Rattle.network_tables.specs.Tables.{CountsHold, LinkTable, TimeTable}
@@ -68,3 +68,9 @@ pub record PlanState (network plan : List Line) (boundary i : ℕ) (answer : Res
   pub arrived : has_arrived network plan (left network plan boundary i + queued) boundary i ≡ true
   pub no_more : has_arrived network plan (left network plan boundary i + queued + 1) boundary i ≡ false
   pub whole : queued + in-transit ≡ held network plan boundary i
+
+-- On the ledger that the check of an accepted plan leaves, whatever the ledger held before, the state of every link is told at every boundary, and it is that of the plan.
+abbrev pub PlanStates : List Line → List ℕ → ℕ → ℕ → Result LinkState Refusal → Type 0
+PlanStates network ledger boundary link answer =
+    (plan : List Line) (before : List ℕ) → Hold (plan_checks network plan (length before)) → ledger ≡ ledger_after network plan before
+    → boundary ≤ step_count network → 1 ≤ link → link ≤ link_count network → PlanState network plan boundary (link - 1) answer

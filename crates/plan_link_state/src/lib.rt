@@ -6,7 +6,7 @@ ghost use Rattle.text_reader.specs.Lines.{lines};
 ghost use Rattle.text_reader.specs.Padding.{PaddingIgnored};
 ghost use Rattle.model.specs.Calls.{link_state};
 ghost use Rattle.model.specs.Guarantees.{StatePromises};
-ghost use Rattle.plan_link_state.specs.State.{Tabled, OverAsked, EnteredOver, arrived_in, ArrivedAsked, state_from};
+ghost use Rattle.plan_link_state.specs.State.{Tabled, OverAsked, EnteredOver, arrived_in, ArrivedAsked, state_from, PlanStates};
 
 use base_search::{Reason, Refusal, checked};
 use model::{LinkState, Signal};
@@ -124,7 +124,8 @@ pub fn link_state(
     link: u32,
 ) -> Result<LinkState, Refusal>
     ensures value { result ≡ link_state (lines network.now) ledger.now boundary link }
-    ensures state_promises { StatePromises result }
+    ensures state_promises { StatePromises (lines network.now) ledger.now boundary link result }
+    ensures plan_state { PlanStates (lines network.now) ledger.now boundary link result }
     ensures padding_ignored { PaddingIgnored network.now (λ padded. result ≡ link_state (lines padded) ledger.now boundary link) }
 {
     let mut signals = [Signal::default(); MAX_SIGNALS];

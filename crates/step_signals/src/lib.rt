@@ -5,7 +5,7 @@
 
 ghost use Rattle.std.specs.Prelude.{◌≡◌, ◌↔◌, true, ◌-◌, ◌^◌, ◌≤◌, length};
 ghost use Rattle.model.specs.Network.{max_signals};
-ghost use Rattle.model.specs.Signals.{phase_of, opens, phase_after, begins_cycle, greatest_time, shown_for_after, clock_after, keeps_order, keeps_least_time, keeps_greatest_time, keeps_cycle, after};
+ghost use Rattle.model.specs.Signals.{phase_of, opens, phase_after, PhaseOrder, begins_cycle, greatest_time, shown_for_after, clock_after, keeps_order, keeps_least_time, keeps_greatest_time, keeps_cycle, after};
 ghost use Rattle.step_signals.specs.Ready.{Ready, AllReady};
 ghost use Rattle.step_signals.specs.Rules.{signal_rule_number, signal_test, keeps_ordinary_rules, keeps_all, goes_on, SignalRulesKept, SignalTables};
 ghost use Rattle.step_signals.specs.Step.{ShownPhases, HeldMasks, stepped, AdvanceAsked, Advanced};
@@ -65,9 +65,12 @@ pub fn opens(mask: u32, phase: u32) -> bool
 }
 
 // The phase after one of so many, by cases (C8), as the paper has it: after P comes 1, after any other k comes k + 1. After phase 0, which is none, it is 1.
+// Of P phases, the P-th next is the first that is the same phase again.
+#[tactic(auto, using(model::proofs::Order::phase_order))]
 pub fn phase_after(phase: u32, phases: u32) -> u32
     requires { (phase ≤ phases) × (phases ≤ 8) }
-    ensures { result ≡ phase_after phases phase }
+    ensures value { result ≡ phase_after phases phase }
+    ensures phase_order { PhaseOrder }
 {
     if phase == phases {
         return 1;
