@@ -1,7 +1,7 @@
 -- The theorem of T-09.
 use Rattle.std.specs.Prelude.{ℕ, suc, ◌+◌, ◌*◌, ◌-◌, ◌≤◌, ◌<◌, ◌≡◌, ◌↔◌, List, [], ◌++◌, length, take, drop, Result, Ok, Err}
 use Rattle.base_search.specs.declared.Refusal.{Refusal}
-use Rattle.base_search.specs.Checks.{refusal, or_else, verdict, Verdict}
+use Rattle.base_search.specs.Checks.{refusal, or_else, verdict, Hold, Verdict}
 use Rattle.base_search.specs.Numbers.{CanArise}
 use Rattle.text_reader.specs.Lines.{Line, lines}
 use Rattle.model.specs.Network.{link_count, step_count}
@@ -9,8 +9,9 @@ use Rattle.model.specs.Flows.{doubled_time, row}
 use Rattle.model.specs.Table.{network_checks, plan_checks}
 use Rattle.model.specs.Calls.{check_network}
 use Rattle.model.specs.Hold.{meant}
+use Rattle.model.specs.Guarantees.{Guarantees, LedgerPromises}
 use Rattle.model_carry.specs.Part.{cut, carried_text}
-use Rattle.model_carry.specs.Call.{carry_numbers, carry_checks, carry_on, carry_ledger, carry_buffer}
+use Rattle.model_carry.specs.Call.{boundary_checks, carry_numbers, carry_checks, carry_on, carry_ledger, carry_buffer}
 
 -- a verdict with its line so many lines later
 unfoldable pub later : ℕ → Verdict → Verdict
@@ -62,7 +63,8 @@ pub record CarriesOn (network : List Line) : Type 0 where
       → carried_text (next network plan b) more c ≡ carried_text network (plan ++ more) (b + c)
 
 -- What the call promises of a plan, the ledger and the buffer before and after it, and its answer: all are those of the definitions; a text that was written is a valid
--- network, and a refusal leaves the buffer as it was; the theorem; and a refusal's number is one that can arise.
+-- network, and a refusal leaves the buffer as it was; a plan that is carried on has every guarantee of an accepted plan, on the cut network, and the ledger is that of its
+-- check there; the theorem; and a refusal's number is one that can arise.
 pub record CarriedOn (network plan : List Line) (b : ℕ) (ledger ledger_after buffer buffer_after : List ℕ) (answer : Result ℕ Refusal) : Type 0 where
   pub told : answer ≡ carry_on network plan b (length ledger) (length buffer)
   pub rows : ledger_after ≡ carry_ledger network plan b ledger
@@ -70,5 +72,8 @@ pub record CarriedOn (network plan : List Line) (b : ℕ) (ledger ledger_after b
   pub written : (end : ℕ) → answer ≡ Ok end → take end buffer_after ≡ carried_text network plan b
   pub written-valid : (end : ℕ) → answer ≡ Ok end → check_network (lines (take end buffer_after)) ≡ Ok tt
   pub untouched : (r : Refusal) → answer ≡ Err r → buffer_after ≡ buffer
+  pub guaranteed : (end : ℕ) → answer ≡ Ok end → Guarantees (cut network b) plan (doubled_time (cut network b) plan b)
+  pub ledger-promises : Hold (boundary_checks network b) → LedgerPromises (cut network b) plan ledger ledger_after
+  pub ledger-untouched : (Hold (boundary_checks network b) → ⊥) → ledger_after ≡ ledger
   pub carries-on : CarriesOn network
   pub refused-number : (r : Refusal) → answer ≡ Err r → CanArise carry_numbers r.number

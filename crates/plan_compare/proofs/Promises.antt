@@ -1,23 +1,25 @@
 -- What a comparison promises of its answer.
-use Rattle.base_laws.proofs.Kit.{ℕ, ◌≤◌, ◌<◌, ◌≡◌, refl, ap₂, ◌∙◌, List, le_antisymm, arith}
+use Rattle.base_laws.proofs.Kit.{ℕ, ◌≤◌, ◌<◌, ◌≡◌, refl, ap₂, ◌∙◌, List, le_antisymm, arith, length}
 use lib.IntN.{ℤ, sub_ℕ}
+use Rattle.base_search.specs.declared.Refusal.{Refusal}
 use Rattle.base_search.specs.Checks.{Hold, verdict}
 use Rattle.base_search.specs.Numbers.{CanArise}
-use Rattle.base_search.proofs.Laws.{hold-of-passes}
+use Rattle.base_search.proofs.Laws.{hold-of-passes, passes-of-hold}
 use Rattle.text_reader.specs.Lines.{Line}
 use Rattle.model.specs.declared.Totals.{Totals}
 use Rattle.model.specs.Network.{step_count}
 use Rattle.model.specs.Flows.{doubled_time}
 use Rattle.model.specs.Table.{plan_checks}
-use Rattle.model.specs.Calls.{check_network, check_plan}
-use Rattle.model.specs.Guarantees.{plan_numbers}
+use Rattle.model.specs.Calls.{check_network, check_plan, ledger_after}
+use Rattle.model.specs.Guarantees.{Guarantees, plan_numbers}
 use Rattle.model.proofs.Accepted.{AcceptedPlan, accepted-plan}
-use Rattle.model.proofs.Promises.{passes-of-accepted}
+use Rattle.model.proofs.Promises.{guarantees, passes-of-accepted, accepted-of-passes}
+use Rattle.model.proofs.Written.{ledger-promises}
 use Rattle.plan_compare.specs.declared.Order.{Order}
 use Rattle.plan_compare.specs.declared.Comparison.{Comparison}
 use Rattle.plan_compare.specs.declared.ComparisonRefusal.{ComparisonRefusal}
-use Rattle.plan_compare.specs.Comparison.{order, refusal_in, plans_answer, network_answer, compare_plans}
-use Rattle.plan_compare.specs.Promises.{NeverFewer, SomewhereMore, PlansCompared, ComparisonPromises}
+use Rattle.plan_compare.specs.Comparison.{order, refusal_in, plans_answer, network_answer, once_accepted, compare_plans, second_ledger_after}
+use Rattle.plan_compare.specs.Promises.{NeverFewer, SomewhereMore, PlansCompared, ComparisonPromises, ComparisonLedgers}
 use Rattle.plan_compare.proofs.Orders.{order-stands, stands-order, order-swapped}
 use Rattle.plan_compare.proofs.Gap.{gap-none, gap_below, gap-not-above, gap-quicker, gap-as-quick, gap-negated}
 use Rattle.plan_compare.proofs.Times.{time-le, time-less}
@@ -38,6 +40,9 @@ accepts network plan size t e =
 module _ {network plan : List Line} {size : ℕ} {t : Totals} (a : Accepts network plan size t) where
   pub accepted : AcceptedPlan network plan
   accepted = accepted-plan network plan size a.holds
+
+  pub accepted-guarantees : Guarantees network plan t.doubled_time
+  accepted-guarantees = rw a.time (guarantees network plan accepted)
 
   -- with no other totals
   same-totals : {other : Totals} → check_plan network plan size ≡ Ok other → other ≡ t
@@ -61,6 +66,7 @@ module _ {network first second : List Line} {first_size second_size : ℕ} {t u 
   plans-compared =
       record {
         accepted = (t, u, one.told, other.told, refl);
+        guaranteed = λ t' u' e f. (accepted-guarantees (accepts network first first_size t' e), accepted-guarantees (accepts network second second_size u' f));
         quicker = λ t' u' e f. rw (same-totals one e, same-totals other f) (gap-quicker _ _);
         as-quick = λ t' u' e f. rw (same-totals one e, same-totals other f) (gap-as-quick _ _);
         stands = order-stands network first second;
@@ -93,3 +99,25 @@ module _ {network first second : List Line} {first_size second_size : ℕ} where
         compared = λ c e. let z : ◌≡◌ {A = ℕ} 0 1 = cc in absurd (omega arith);
         refused-number = λ q e. let a : q ≡ r = cc in rw a h;
       }
+
+-- both ledgers, by the definitions
+module _ (network first second : List Line) (first_old second_old : List ℕ) where
+  second-written : Hold (plan_checks network first (length first_old)) → second_ledger_after network first second (length first_old) second_old ≡ ledger_after network second second_old
+  unfolding second_ledger_after check_plan
+  second-written h = let (t, e) = accepted-of-passes network first _ (passes-of-hold _ h) in rw e (unfold once_accepted in refl)
+
+  second-kept : (Hold (plan_checks network first (length first_old)) → ⊥) → second_ledger_after network first second (length first_old) second_old ≡ second_old
+  unfolding second_ledger_after
+  second-kept none = go (check_plan network first (length first_old)) refl
+    where
+      go : (answer : Result Totals Refusal) → check_plan network first (length first_old) ≡ answer → once_accepted answer second_old (ledger_after network second second_old) ≡ second_old
+      go (Ok t) e = absurd (none (accepts network first (length first_old) t e).holds)
+      go (Err r) e = unfold once_accepted in refl
+
+  pub comparison-ledgers : {first_new second_new : List ℕ} → first_new ≡ ledger_after network first first_old → second_new ≡ second_ledger_after network first second (length first_old) second_old
+      → ComparisonLedgers network first second first_old first_new second_old second_new
+  comparison-ledgers e f = record {
+    first_ledger = rw e (ledger-promises network first first_old);
+    second_ledger = λ h. rw (f, second-written h) (ledger-promises network second second_old);
+    second_untouched = λ none. f ∙ second-kept none;
+  }

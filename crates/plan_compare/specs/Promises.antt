@@ -1,13 +1,15 @@
 -- What a comparison of two plans promises, and the theorem of T-11.
 use Rattle.std.specs.Prelude.{ℕ, ◌≤◌, ◌<◌, ◌≡◌, ◌↔◌, List, length, ℤ, pos, neg_ℤ, ◌≤ℤ◌, ◌<ℤ◌, Result, Ok, Err}
 use Rattle.std.proofs.Math.IntN.{sub_ℕ}
+use Rattle.base_search.specs.Checks.{Hold}
 use Rattle.base_search.specs.Numbers.{CanArise}
 use Rattle.text_reader.specs.Lines.{Line, lines}
 use Rattle.model.specs.declared.Totals.{Totals}
 use Rattle.model.specs.Network.{step_count}
 use Rattle.model.specs.Hold.{plan_of}
 use Rattle.model.specs.Calls.{check_plan, ledger_after}
-use Rattle.model.specs.Guarantees.{plan_numbers}
+use Rattle.model.specs.Table.{plan_checks}
+use Rattle.model.specs.Guarantees.{Guarantees, LedgerPromises, plan_numbers}
 use Rattle.plan_compare.specs.declared.Order.{Order}
 use Rattle.plan_compare.specs.declared.Order.TheVariants.{Ahead, Behind, Equal, Crossing}
 use Rattle.plan_compare.specs.declared.Comparison.{Comparison}
@@ -42,7 +44,10 @@ pub record PlansCompared (network first second : List Line) (first_size second_s
   -- both are accepted, and the gap is the doubled time of the first minus that of the second
   pub accepted : (t : Totals) × (u : Totals) × (check_plan network first first_size ≡ Ok t) × (check_plan network second second_size ≡ Ok u)
       × (gap ≡ sub_ℕ t.doubled_time u.doubled_time)
-  -- it is below 0 exactly when the first is quicker, and 0 exactly when the times are equal
+  -- each has every guarantee of an accepted plan
+  pub guaranteed : (t u : Totals) → check_plan network first first_size ≡ Ok t → check_plan network second second_size ≡ Ok u
+      → Guarantees network first t.doubled_time × Guarantees network second u.doubled_time
+  -- the gap is below 0 exactly when the first is quicker, and 0 exactly when the times are equal
   pub quicker : (t u : Totals) → check_plan network first first_size ≡ Ok t → check_plan network second second_size ≡ Ok u
       → (gap <ℤ pos 0) ↔ (t.doubled_time < u.doubled_time)
   pub as-quick : (t u : Totals) → check_plan network first first_size ≡ Ok t → check_plan network second second_size ≡ Ok u
@@ -61,6 +66,13 @@ pub record PlansCompared (network first second : List Line) (first_size second_s
 pub record ComparisonPromises (network first second : List Line) (first_size second_size : ℕ) (answer : Result Comparison ComparisonRefusal) : Type 0 where
   pub compared : (c : Comparison) → answer ≡ Ok c → PlansCompared network first second first_size second_size c.order c.gap
   pub refused-number : (r : ComparisonRefusal) → answer ≡ Err r → CanArise plan_numbers (refusal_in r).number
+
+-- What it promises of the two ledgers, before and after it: the first is that of the first plan's check; the second is that of the second plan's, once the first is
+-- accepted, and is untouched otherwise.
+pub record ComparisonLedgers (network first second : List Line) (first_before first_after second_before second_after : List ℕ) : Type 0 where
+  pub first_ledger : LedgerPromises network first first_before first_after
+  pub second_ledger : Hold (plan_checks network first (length first_before)) → LedgerPromises network second second_before second_after
+  pub second_untouched : (Hold (plan_checks network first (length first_before)) → ⊥) → second_after ≡ second_before
 
 -- what comparing two plan texts gives, whatever was handed in: the answer and both ledgers are those of the definitions
 pub record ComparisonGot (network_text first_text second_text first_old second_old : List ℕ) (answer : Result Comparison ComparisonRefusal) (first_ledger second_ledger : List ℕ) : Type 0 where

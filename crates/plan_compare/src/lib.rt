@@ -9,7 +9,7 @@ ghost use Rattle.model.specs.Hold.{plan_of};
 ghost use Rattle.model.specs.Calls.{ledger_after};
 ghost use Rattle.network.specs.Loading.{StartLoaded};
 ghost use Rattle.plan_compare.specs.Comparison.{order_number, order_by, plan_number, refusal_in, compare_plans, second_ledger_after};
-ghost use Rattle.plan_compare.specs.Promises.{ComparisonPromises, ComparisonGot};
+ghost use Rattle.plan_compare.specs.Promises.{ComparisonPromises, ComparisonLedgers, ComparisonGot};
 ghost use Rattle.plan_compare.specs.Curves.{lines_order, Formed, NextAsked, NextGot};
 
 use base_search::Refusal;
@@ -186,6 +186,7 @@ pub fn compare_plans(
     ensures value { result ≡ compare_plans (lines network.now) (plan_of network.now first.now) (plan_of network.now second.now) (length first_ledger.old) (length second_ledger.old) }
     ensures first_ledger_after { first_ledger.new ≡ ledger_after (lines network.now) (plan_of network.now first.now) first_ledger.old }
     ensures second_ledger_after { second_ledger.new ≡ second_ledger_after (lines network.now) (plan_of network.now first.now) (plan_of network.now second.now) (length first_ledger.old) second_ledger.old }
+    ensures ledger_promises { ComparisonLedgers (lines network.now) (plan_of network.now first.now) (plan_of network.now second.now) first_ledger.old first_ledger.new second_ledger.old second_ledger.new }
     ensures comparison_promises { ComparisonPromises (lines network.now) (plan_of network.now first.now) (plan_of network.now second.now) (length first_ledger.old) (length second_ledger.old) result }
     ensures padding_ignored { PaddingIgnored network.now (λ padded_network. PaddingIgnored first.now (λ padded_first. PaddingIgnored second.now (λ padded_second. ComparisonGot padded_network padded_first padded_second first_ledger.old second_ledger.old result first_ledger.new second_ledger.new))) }
 {
