@@ -6,19 +6,14 @@ use Rattle.plan_compare.specs.declared.Order.{Order}
 use Rattle.plan_compare.specs.declared.Order.TheVariants.{Ahead, Behind, Equal, Crossing}
 use Rattle.cells_call.specs.declared.CellsRun.{CellsRun}
 use Rattle.cells_call.specs.Call.{volumes_in}
-use Rattle.plancheck_c.specs.declared.CellsResult.{CellsResult}
 use Rattle.plan_compare.specs.declared.Comparison.{Comparison}
 use Rattle.plan_compare.specs.declared.ComparisonRefusal.{ComparisonRefusal}
 use Rattle.plan_compare.specs.declared.ComparisonRefusal.TheVariants.{Network, First, Second}
 use Rattle.plan_compare.specs.Comparison.{order_number, refusal_in}
-use Rattle.plancheck_c.specs.declared.NetworkResult.{NetworkResult}
-use Rattle.plancheck_c.specs.declared.PlanResult.{PlanResult}
-use Rattle.plancheck_c.specs.declared.TextResult.{TextResult}
-use Rattle.plancheck_c.specs.declared.ComparisonResult.{ComparisonResult}
-use Rattle.plancheck_c.specs.declared.SplitResult.{SplitResult}
-use Rattle.plancheck_c.specs.Results.{verdict_result, verdict_of, plan_result, plan_answer_of, text_result, text_answer_of, comparison_result, comparison_answer_of, split_result, split_answer_of, cells_result, cells_answer_of, order_of}
+use Rattle.plancheck_c.specs.Results.{verdict_result, verdict_of, plan_result, plan_answer_of, link_result, link_answer_of, text_result, text_answer_of, comparison_result, comparison_answer_of, split_result, split_answer_of, cells_result, cells_answer_of, order_of}
 use Rattle.std.specs.Prelude.{Result, Ok, Err}
 use Rattle.model_split.specs.declared.Lengths.{Lengths}
+use Rattle.model.specs.declared.LinkState.{LinkState}
 use Rattle.model.specs.declared.Totals.{Totals}
 use Rattle.base_search.specs.Checks.{Verdict}
 
@@ -43,6 +38,10 @@ module _ {numbers : List ℕ} where
   pub plan-back : (a : Result Totals Refusal) → ((q : Refusal) → a ≡ Err q → CanArise numbers q.number) → plan_answer_of (plan_result a) ≡ a
   plan-back (Ok t) h = refl
   plan-back (Err r) h = rw (not-zero r (h r refl))
+
+  pub link-back : (a : Result LinkState Refusal) → ((q : Refusal) → a ≡ Err q → CanArise numbers q.number) → link_answer_of (link_result a) ≡ a
+  link-back (Ok state) h = refl
+  link-back (Err r) h = rw (not-zero r (h r refl))
 
   pub text-back : (a : Result ℕ Refusal) → ((q : Refusal) → a ≡ Err q → CanArise numbers q.number) → text_answer_of (text_result a) ≡ a
   text-back (Ok end) h = refl

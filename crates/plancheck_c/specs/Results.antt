@@ -2,6 +2,7 @@
 use Rattle.std.specs.Prelude.{ℕ, cond, List, ◌≡◌, ◌≢◌, eqb, pos, Result, Ok, Err}
 use Rattle.base_search.specs.Checks.{refusal, Checks, Hold, Verdict}
 use Rattle.base_search.specs.Numbers.{CanArise}
+use Rattle.model.specs.Calls.{state_of}
 use Rattle.network_tables.specs.declared.Counts.{Counts}
 use Rattle.plan_compare.specs.declared.Order.{Order}
 use Rattle.plan_compare.specs.declared.Order.TheVariants.{Ahead, Behind, Equal, Crossing}
@@ -63,6 +64,10 @@ plan_answer_of r =
 abbrev pub link_result : Result LinkState Refusal → LinkResult
 link_result (Ok state) = record { number = 0; line = 0; item = 0; queued = state.queued; in_transit = state.in_transit }
 link_result (Err r) = record { number = r.number; line = r.line; item = r.item; queued = 0; in_transit = 0 }
+
+-- the answer that a C caller reads off: number 0 is the state of a link, any other a refusal
+abbrev pub link_answer_of : LinkResult → Result LinkState Refusal
+link_answer_of r = cond (eqb r.number 0) (Ok (state_of r.queued r.in_transit)) (Err (refusal r.number r.line r.item))
 
 abbrev pub text_result : Result ℕ Refusal → TextResult
 text_result (Ok end) = record { number = 0; line = 0; item = 0; length = end }

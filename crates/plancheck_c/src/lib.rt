@@ -9,7 +9,7 @@ ghost use Rattle.text_reader.specs.Padding.{PaddingIgnored};
 ghost use Rattle.model.specs.Table.{network_checks, plan_checks};
 ghost use Rattle.model.specs.Hold.{plan_of, EmptyHolds};
 ghost use Rattle.model.specs.Calls.{check_network, check_plan, ledger_after, state_checks, link_state};
-ghost use Rattle.model.specs.Guarantees.{network_numbers, state_numbers, plan_numbers, Promises};
+ghost use Rattle.model.specs.Guarantees.{network_numbers, state_numbers, plan_numbers, NetworkPromises, StatePromises, Promises};
 ghost use Rattle.traces.specs.Call.{step_checks, vehicles_numbers, step_vehicles, places_after};
 ghost use Rattle.traces.specs.Guarantees.{StepKeeps};
 ghost use Rattle.cells_lines.specs.Corridor.{corridor_checks};
@@ -25,12 +25,14 @@ ghost use Rattle.carry.specs.Carrying.{CarryGot};
 ghost use Rattle.model_sheet.specs.Cycle.{write_checks};
 ghost use Rattle.model_sheet.specs.Calls.{sheet_numbers, sheet_plan_numbers, keep_checks, check_sheet, plan_from_sheet};
 ghost use Rattle.model_sheet.specs.Promises.{SheetPromises, WritePromises};
+ghost use Rattle.plan_link_state.specs.State.{PlanStates};
 ghost use Rattle.plan_compare.specs.Comparison.{compare_plans, second_ledger_after};
-ghost use Rattle.plan_compare.specs.Promises.{ComparisonPromises, ComparisonGot};
+ghost use Rattle.plan_compare.specs.Promises.{ComparisonPromises, ComparisonLedgers, ComparisonGot};
 ghost use Rattle.model_split.specs.Call.{split_numbers, split_checks, split_network};
 ghost use Rattle.model_split.specs.Splits.{SplitInTwo, room_of};
 ghost use Rattle.split.specs.Splitting.{texts, buffers, SplitGot};
-ghost use Rattle.plancheck_c.specs.Results.{NumberTells, verdict_result, verdict_of, counts_result, version, plan_result, plan_answer_of, link_result, text_result, text_answer_of, comparison_result, comparison_answer_of, split_result, split_answer_of, cells_result, cells_answer_of};
+ghost use Rattle.text_lengths.specs.Lengths.{GreatestLengths};
+ghost use Rattle.plancheck_c.specs.Results.{NumberTells, verdict_result, verdict_of, counts_result, version, plan_result, plan_answer_of, link_result, link_answer_of, text_result, text_answer_of, comparison_result, comparison_answer_of, split_result, split_answer_of, cells_result, cells_answer_of};
 
 use base_search::Refusal;
 use cells_call::CellsRun;
@@ -298,6 +300,8 @@ impl From<Result<Lengths, Refusal>> for SplitResult {
 #[unsafe(no_mangle)]
 pub extern "C" fn plancheck_check_network(network: &[u8]) -> NetworkResult
     ensures value { result ≡ verdict_result (check_network (lines network.now)) }
+    ensures network_promises { NetworkPromises (lines network.now) (verdict_of result) }
+    ensures lengths { GreatestLengths network.now }
     ensures number_tells { NumberTells (network_checks (lines network.now)) network_numbers result.number }
     ensures padding_ignored { PaddingIgnored network.now (λ padded. result ≡ verdict_result (check_network (lines padded))) }
 {
@@ -402,6 +406,8 @@ pub extern "C" fn plancheck_link_state(
     link: u32,
 ) -> LinkResult
     ensures value { result ≡ link_result (link_state (lines network.now) ledger.now boundary link) }
+    ensures state_promises { StatePromises (lines network.now) ledger.now boundary link (link_answer_of result) }
+    ensures plan_state { PlanStates (lines network.now) ledger.now boundary link (link_answer_of result) }
     ensures number_tells { NumberTells (state_checks (lines network.now) ledger.now boundary link) state_numbers result.number }
     ensures padding_ignored { PaddingIgnored network.now (λ padded. result ≡ link_result (link_state (lines padded) ledger.now boundary link)) }
 {
@@ -449,6 +455,7 @@ pub extern "C" fn plancheck_compare_plans(
     ensures value { result ≡ comparison_result (compare_plans (lines network.now) (plan_of network.now first.now) (plan_of network.now second.now) (length first_ledger.old) (length second_ledger.old)) }
     ensures first_ledger_after { first_ledger.new ≡ ledger_after (lines network.now) (plan_of network.now first.now) first_ledger.old }
     ensures second_ledger_after { second_ledger.new ≡ second_ledger_after (lines network.now) (plan_of network.now first.now) (plan_of network.now second.now) (length first_ledger.old) second_ledger.old }
+    ensures ledger_promises { ComparisonLedgers (lines network.now) (plan_of network.now first.now) (plan_of network.now second.now) first_ledger.old first_ledger.new second_ledger.old second_ledger.new }
     ensures comparison_promises { ComparisonPromises (lines network.now) (plan_of network.now first.now) (plan_of network.now second.now) (length first_ledger.old) (length second_ledger.old) (comparison_answer_of result) }
     ensures number_tells { NumberTells (plan_checks (lines network.now) (plan_of network.now first.now) (length first_ledger.old) then plan_checks (lines network.now) (plan_of network.now second.now) (length second_ledger.old)) plan_numbers result.number }
     ensures padding_ignored { PaddingIgnored network.now (λ padded_network. PaddingIgnored first.now (λ padded_first. PaddingIgnored second.now (λ padded_second. ComparisonGot padded_network padded_first padded_second first_ledger.old second_ledger.old (comparison_answer_of result) first_ledger.new second_ledger.new))) }

@@ -15,7 +15,7 @@ use Rattle.model_carry.specs.Part.{carried_text}
 use Rattle.model_carry.proofs.CarriesOn.{carries-on}
 use Rattle.listing_call.specs.Listing as listing
 use Rattle.model_sheet.specs.Cycle as sheet
-use Rattle.text_lengths.specs.Lengths.{plan_text_most, Lengths}
+use Rattle.text_lengths.specs.Lengths.{plan_text_most, GreatestLengths}
 use Rattle.text_lengths.proofs.Network.{network-most}
 use Rattle.text_lengths.proofs.Written.{listing-most, sheet-most}
 
@@ -38,7 +38,7 @@ plan-most network plan size (holds, (ledger, (forms, ended))) = elim (dec_le (le
         (λ m l. let z : 0 + m ≡ m = omega arith in (width, omega (arith, c), rw z (rw meant at (forms m l).0))) in
         omega (arith, takes_all plan (rw e at steps), c)
 
-pub lengths : (network : List ℕ) → Lengths network
+pub lengths : (network : List ℕ) → GreatestLengths network
 unfolding listing.write_checks sheet.write_checks Hold
 lengths network =
     record {

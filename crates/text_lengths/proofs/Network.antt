@@ -3,7 +3,6 @@ use Rattle.base_laws.proofs.Kit.{ℕ, ◌+◌, ◌*◌, ◌≤◌, ◌≡◌, Li
 use Rattle.base_search.specs.Checks.{Hold}
 use Rattle.text_reader.specs.Lines.{Line, lines}
 use Rattle.text_reader.proofs.Lengths.{takes_none, takes-more, takes_run, takes_all}
-use Rattle.base_laws.specs.Test.{◌and◌}
 use Rattle.model.specs.Network.{link_count, signal_count, movement_count, step_count, tram_count, past_count, on_timeline, tram_line, signal_line, link_line, movement_line, timeline_line, step_line, signal}
 use Rattle.model.specs.Rules.{valid_counts}
 use Rattle.model.specs.Table.{network_checks, letter_n, letter_t, letter_g, letter_q, letter_m, letter_h, letter_s}

@@ -1,7 +1,7 @@
 -- In a plan of one step no two tram lines are for one signal.
-use Rattle.base_laws.proofs.Kit.{ℕ, zero, suc, ◌+◌, ◌≤◌, ◌<◌, ◌≡◌, refl, sym, ◌∙◌, ◌⊎◌, ⊎_elim, ◌≢◌, Bool, true, false, not, true≢false, List, arith, leb-true, ltb-true, eqb-true, eq-eqb, eqb, ltb}
+use Rattle.base_laws.proofs.Kit.{ℕ, zero, suc, ◌+◌, ◌≤◌, ◌<◌, ◌≡◌, refl, sym, ◌∙◌, ⊎_elim, ◌≢◌, Bool, true, false, not, true≢false, List, arith, leb-true, ltb-true, eqb-true, eq-eqb, eqb, ltb}
 use Rattle.text_reader.specs.Lines.{Line, number}
-use Rattle.base_laws.specs.Test.{◌and◌, ◌or◌, within}
+use Rattle.base_laws.specs.Test.{within}
 use Rattle.base_laws.specs.Sum.{sum, only}
 use Rattle.model.specs.Network.{signal_count, step_count, tram_count}
 use Rattle.model.specs.Rules.{apart, tram_exists, valid_tram, tram}

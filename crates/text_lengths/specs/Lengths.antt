@@ -25,7 +25,7 @@ abbrev pub sheet_plan_most : ℕ
 sheet_plan_most = 30_960
 
 -- Of every network text, whatever the lengths of the ledger and of the buffer:
-pub record Lengths (network : List ℕ) : Type 0 where
+pub record GreatestLengths (network : List ℕ) : Type 0 where
   -- a valid one is no longer
   pub network-text : verdict (network_checks (lines network)) ≡ Ok tt → length network ≤ network_text_most
   -- nor is a plan text that is accepted on it

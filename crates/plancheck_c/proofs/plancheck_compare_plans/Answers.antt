@@ -31,6 +31,7 @@ returns c =
       value = told;
       first_ledger_after = e.first_ledger_after;
       second_ledger_after = e.second_ledger_after;
+      ledger_promises = e.ledger_promises;
       comparison_promises = promised _ _ is e.comparison_promises;
       number_tells = compared-tells _ _ _ _ _ told;
       padding_ignored = λ padded_network n padded_first f padded_second s.
