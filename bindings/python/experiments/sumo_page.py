@@ -24,7 +24,7 @@ from matplotlib import pyplot  # noqa: E402
 ROOT = Path(__file__).resolve().parents[3]
 PAGE, PICTURE = ROOT / "docs/SUMO.md", ROOT / "docs/pictures/sumo.png"
 START = "<!-- from here on written by bindings/python/experiments/sumo_page.py -->"
-END = "<!-- to here -->"
+END = "<!-- here ends what it writes -->"
 CASES = (
     Case("splits and offsets", scale=1.0, left=0.0, splits=True),
     Case("offsets alone", scale=0.7, left=0.0, splits=False),
