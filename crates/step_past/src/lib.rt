@@ -195,9 +195,11 @@ fn move_by_lines(tables: &NetworkTables, at: usize, i: usize, to: usize, arrival
     }
 }
 
-// Moves link `i`, whose travel time ends in past step `to`, on to the timeline's boundary `at`. Where the two links behind it wait for the same `H` line, lines are read
-// whole, and move these on too; else of each line the link's number alone is read: to read a line takes as long as to find three of its numbers.
-// Not inlined, for check_plan's speed (docs/MEASUREMENTS.md).
+// Moves link `i`, whose travel time ends in past step `to`, on to the timeline's boundary `at`.
+// Where its next `H` line moves two links behind it too, lines are read whole, for all of them;
+// else of each line the link's number alone is read: to read a line takes as long as to find three
+// of its numbers. Links that wait for the line but stay do not count: a line read whole would move
+// link `i` alone. Not inlined, for check_plan's speed (docs/MEASUREMENTS.md).
 #[inline(never)]
 fn move_past(tables: &NetworkTables, at: usize, i: usize, to: usize, arrivals: &mut [Arrival])
     requires { PastMoveAsked tables.now at i to arrivals.old }
@@ -205,9 +207,15 @@ fn move_past(tables: &NetworkTables, at: usize, i: usize, to: usize, arrivals: &
 {
     let arrival = arrivals[i];
     let step = arrival.step;
-    if i + 2 < tables.reading.counts.links
-        && (arrivals[i + 1].step == step) & (arrivals[i + 2].step == step)
-    {
+    // Saturating: the contract leaves open whether a line is left to be read.
+    let since = tables.times[at].saturating_sub(tables.times[step + 1]);
+    let mut others: usize = 0;
+    for j in i + 1..tables.reading.counts.links {
+        if (arrivals[j].step == step) & (tables.links[j].travel_time <= since) {
+            others += 1;
+        }
+    }
+    if 2 <= others {
         move_by_lines(tables, at, i, to, arrivals);
     } else {
         arrivals[i] = read_on(tables.text, i, step + 1, to + 1, arrival);

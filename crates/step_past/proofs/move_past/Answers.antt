@@ -5,5 +5,5 @@ use Rattle.step_past.proofs.move_past.Goals as goal
 pub read_on-requires : goal.read_on-requires
 read_on-requires c = alone-asked c.requires
 
-pub returns-else-i-tables : goal.returns-else-i-tables
-returns-else-i-tables c = alone-moved c.requires c.read_on.ensures
+pub returns-else-others-ge2 : goal.returns-else-others-ge2
+returns-else-others-ge2 c = alone-moved c.requires c.read_on.ensures
