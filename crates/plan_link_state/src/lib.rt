@@ -44,7 +44,7 @@ fn entered_over(tables: &NetworkTables, ledger: &[u32], n: usize, i: usize, step
         if past <= step {
             return first;
         }
-        return step_past::read_on(tables.text, i, 0, step + 1, first);
+        return step_past::read_on(tables.text, counts.links, i, 0, step + 1, first);
     }
     let row = step - past;
     Arrival {

@@ -2,7 +2,8 @@
 use Rattle.base_laws.proofs.Kit.{ℕ, suc, ◌+◌, ◌*◌, ◌≤◌, ◌<◌, ◌≡◌, refl, ap, ◌∙◌, List, [], add-one, arith, length}
 use Rattle.text_reader.specs.Lines.{Line, lines, number}
 use Rattle.text_reader.specs.Reading.{Starts, line_at, next_line}
-use Rattle.text_reader.proofs.Laws.{starts-line, record-within, record-next}
+use Rattle.text_reader.specs.Passing.{PassedLine}
+use Rattle.text_reader.proofs.Laws.{starts-line, record-next}
 use Rattle.model.specs.Network.{entry, link_count, past_count, timeline_line, past_entries}
 use Rattle.model.specs.Table.{is_form, letter_h}
 use Rattle.model.proofs.Timeline.{past-inflow, timeline-entered-suc}
@@ -39,9 +40,14 @@ module _ {text : List ℕ} {i step : ℕ} {first : Arrival} (asked : CurveAsked 
   abbrev line : ℕ
   line = timeline_line (lines text) step
 
-  pub curve-within : first.place ≤ length text
+  pub curve-passed : {links : ℕ} → links ≡ link_count (lines text) → PassedLine text first.place (1 + 2 * links)
   unfolding is_form
-  curve-within = record-within text first.place line asked.curve-from.starts letter_h (1 + 2 * link_count (lines text)) (asked.forms step asked.within)
+  curve-passed e =
+      record {
+        letter = letter_h;
+        byte = omega arith;
+        formed = rw (e, starts-line text first.place line asked.curve-from.starts) (asked.forms step asked.within);
+      }
 
   entered-next : {value : ℕ} → value ≡ number (line_at text first.place) (1 + 2 * i) → first.stop + value ≡ past_entered (lines text) (suc step) i
   unfolding past_entries entry

@@ -4,6 +4,8 @@
 #![tactic(auto)]
 
 ghost use Rattle.std.specs.Prelude.{◌≡◌, ◌+◌, ◌*◌, ◌<◌, ◌≤◌, length};
+ghost use Rattle.text_reader.specs.Lines.{lines};
+ghost use Rattle.model.specs.Network.{link_count};
 ghost use Rattle.network_tables.specs.Fields.{past_entries_in};
 ghost use Rattle.step_past.specs.Curves.{CurveAsked, CurveGot, ReadAsked, ReadGot, Started, FindAsked, Found, KeepAsked, Kept, PastAsked, PastLoaded, LinksAsked, LinksMoved, MoveAsked, PastMoveAsked, Moved, NextAsked, NextGot, arrival_after};
 
@@ -53,11 +55,12 @@ impl PastLine<'_> {
 }
 
 // What link `i` waits for at the `H` line of a step, by what it waited for at the one before: of that line its number alone is read.
-fn next_curve(text: &[u8], i: usize, step: usize, arrival: Arrival) -> Arrival
-    requires { CurveAsked text.now i step arrival }
+fn next_curve(text: &[u8], links: usize, i: usize, step: usize, arrival: Arrival) -> Arrival
+    requires asked { CurveAsked text.now i step arrival }
+    requires counted { links ≡ link_count (lines text.now) }
     ensures { CurveGot text.now i step result }
 {
-    let entries = text_reader::number_at(text, arrival.place, 1 + 2 * i);
+    let entries = text_reader::number_at(text, arrival.place, 1 + 2 * i, 1 + 2 * links);
     Arrival {
         step,
         start: arrival.stop,
@@ -66,13 +69,21 @@ fn next_curve(text: &[u8], i: usize, step: usize, arrival: Arrival) -> Arrival
     }
 }
 
-// Reads `H` lines `from` to `to` - 1 for link `i`.
-pub fn read_on(text: &[u8], i: usize, from: usize, to: usize, mut arrival: Arrival) -> Arrival
-    requires { ReadAsked text.now i from to arrival }
+// Reads `H` lines `from` to `to` - 1 for link `i` of so many links.
+pub fn read_on(
+    text: &[u8],
+    links: usize,
+    i: usize,
+    from: usize,
+    to: usize,
+    mut arrival: Arrival,
+) -> Arrival
+    requires asked { ReadAsked text.now i from to arrival }
+    requires counted { links ≡ link_count (lines text.now) }
     ensures { ReadGot text.now i from to arrival result }
 {
     for step in from..to {
-        arrival = next_curve(text, i, step, arrival);
+        arrival = next_curve(text, links, i, step, arrival);
     }
     arrival
 }
@@ -218,7 +229,8 @@ fn move_past(tables: &NetworkTables, at: usize, i: usize, to: usize, arrivals: &
     if 2 <= others {
         move_by_lines(tables, at, i, to, arrivals);
     } else {
-        arrivals[i] = read_on(tables.text, i, step + 1, to + 1, arrival);
+        let links = tables.reading.counts.links;
+        arrivals[i] = read_on(tables.text, links, i, step + 1, to + 1, arrival);
     }
 }
 

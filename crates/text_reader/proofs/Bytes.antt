@@ -72,7 +72,7 @@ module _ (b : ℕ) (bs : List ℕ) (h : b ≢ 10) where
     unfolding first
     first_on = rw (piece-on, split-on 9 b (piece bs) g)
 
-    others-on : others (b ∷ bs) ≡ others bs
+    pub others-on : others (b ∷ bs) ≡ others bs
     unfolding others
     others-on = rw (piece-on, split-on 9 b (piece bs) g)
 

@@ -85,7 +85,7 @@ pub record Read (letter n : ℕ) (text : List ℕ) (at next : ℕ) : Type 0 wher
   pub within : next ≤ length text
 
 -- a line that a line feed ends stands within the text
-ended-within : (text : List ℕ) (at : ℕ) → (line_at text at).ended ≡ true → next_line text at ≤ length text
+pub ended-within : (text : List ℕ) (at : ℕ) → (line_at text at).ended ≡ true → next_line text at ≤ length text
 ended-within text at e =
     omega (arith, piece-within (drop at text) (sym (line-ended text at) ∙ e), length-drop at text, next-piece text at)
 

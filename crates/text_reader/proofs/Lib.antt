@@ -9,6 +9,7 @@ pub mod Padding
 pub mod Opened
 mod Tests
 mod Turns
+mod PassedDigits
 mod Looks
 mod Sentinel
 mod Texts

@@ -16,7 +16,7 @@ module _ (text : List ℕ) (at : ℕ) where
   unfolding line_at line_of field_at piece
   line-letter = ap (λ (l : Line). l.letter) (line_first (drop at text))
 
-  line-fields : (line_at text at).fields ≡ others (drop at text)
+  pub line-fields : (line_at text at).fields ≡ others (drop at text)
   unfolding line_at line_of others
   line-fields = ap (λ (l : Line). l.fields) (line_first (drop at text))
 
@@ -146,7 +146,7 @@ module _ (text : List ℕ) (at : ℕ) where
   pub tab-within : get_or text at 0 ≡ 9 → at < length text
   tab-within e = elim (dec_le (length text) at) [ yes h ↦ omega (arith, List·getD-eq-default text 0 h) | no h ↦ omega arith ]
 
-  past-tabbed : get_or text at 0 ≡ 9
+  pub past-tabbed : get_or text at 0 ≡ 9
       → Onward text at (end_of text (at + 1)) (field_of (field_at text (at + 1)) ∷ (line_at text (end_of text (at + 1))).fields)
   past-tabbed e =
       let tab = past-tab text at (tab-within e) e in

@@ -45,7 +45,7 @@ pub saying-none : (text : List ℕ) (from : ℕ) → Saying text from 10 0 from
 saying-none text from = record { small = omega arith; same = refl }
 
 module _ (text : List ℕ) (from n v i : ℕ) (inv : Saying text from n v i) where
-  stop : field_at text i ≡ [] → Some (number_until v i) ≡ rest_at 10 0 text from
+  pub stop : field_at text i ≡ [] → Some (number_until v i) ≡ rest_at 10 0 text from
   unfolding rest_at located
   stop e = sym (inv.same ∙ rw (e, worth-end n v inv.small) (ap (λ (next : ℕ). Some (number_until v next)) (omega arith)))
 

@@ -1,51 +1,61 @@
--- What the way to one number of a line promises, where no other number is read.
-use Rattle.std.specs.Prelude.{ℕ, ◌+◌, ◌-◌, ◌≤◌, ◌≡◌, Bool, cond, not, List, [], length, drop, get_or, eqb}
+-- What the way to the numbers of a line that has passed promises: nothing in it is tested again.
+use Rattle.std.specs.Prelude.{ℕ, ◌+◌, ◌-◌, ◌/◌, ◌≤◌, ◌<◌, ◌≡◌, ◌≢◌, true, List, [], length, drop, get_or, Some}
+use Rattle.std.specs.Int.Bits.{bit_and}
 use Rattle.base_laws.specs.Sum.{sum}
-use Rattle.base_laws.specs.Test.{every}
-use Rattle.text_reader.specs.Lines.{number}
+use Rattle.text_reader.specs.Field.{digit, field_of}
+use Rattle.text_reader.specs.Lines.{no_letter, is_record, is_number, number}
 use Rattle.text_reader.specs.Reading.{line_at, next_line, field_at}
+use Rattle.text_reader.specs.declared.FieldNumber.{FieldNumber}
 use Rattle.text_reader.specs.declared.Passed.{Passed}
 use Rattle.text_reader.specs.declared.LineNumber.{LineNumber}
 
+-- a record of a letter and so many numbers starts at a place
+pub record PassedLine (text : List ℕ) (at total : ℕ) : Type 0 where
+  pub letter : ℕ
+  pub byte : letter < no_letter
+  pub formed : is_record letter total (line_at text at) ≡ true
+
+-- ---- for the reader's own functions
 -- the bytes of a block
 abbrev pub block_size : ℕ
-block_size = 16
+block_size = 32
 
--- what a byte counts among the separators of a block: a tab 1, a line feed 15
-unfoldable pub separator_weight : ℕ → ℕ
-separator_weight b = cond (eqb b 9) 1 (cond (eqb b 10) 15 0)
+-- what a byte counts among the digits of a block: 1 if bit 4 is set, as in each digit, but in no tab and no line feed
+unfoldable pub digit_weight : ℕ → ℕ
+digit_weight b = bit_and (b / 16) 1
 
--- the separators of n bytes from a place on
-abbrev pub separators : List ℕ → ℕ → ℕ → ℕ
-separators text at n = sum n (λ k. separator_weight (get_or text (at + k) 0))
+-- the digits of n bytes from a place on
+abbrev pub digits_in : List ℕ → ℕ → ℕ → ℕ
+digits_in text at n = sum n (λ k. digit_weight (get_or text (at + k) 0))
+
+-- the bytes from a place on are tabs and digits, up to the line feed that ends the line, and n fields at least follow
+pub record NumbersAhead (text : List ℕ) (at n : ℕ) : Type 0 where
+  pub plain : (k : ℕ) → at ≤ k → k + 1 < next_line text at → get_or text k 0 ≢ 9 → digit (get_or text k 0) ≡ true
+  pub ended : next_line text at ≤ length text
+  pub enough : n ≤ length (line_at text at).fields
 
 -- From one place to another in a line: of n fields that are to be passed so many are left.
 pub record Passing (text : List ℕ) (at n : ℕ) (passed : Passed) : Type 0 where
-  pub within : passed.place ≤ length text
+  pub onward : at ≤ passed.place
   pub few : passed.left ≤ n
   pub fields : (line_at text passed.place).fields ≡ drop (n - passed.left) (line_at text at).fields
   pub next : next_line text passed.place ≡ next_line text at
 
--- From one place to another in a line: past n fields, or past all that the line has.
+-- From one place to another in a line, past n fields.
 pub record FieldsPassed (text : List ℕ) (at n place : ℕ) : Type 0 where
-  pub within : place ≤ length text
   pub stops : field_at text place ≡ []
   pub fields : (line_at text place).fields ≡ drop n (line_at text at).fields
   pub next : next_line text place ≡ next_line text at
 
--- no line feed stands in the n bytes from a place on
-abbrev pub stays_in_line : List ℕ → ℕ → ℕ → Bool
-stays_in_line text at n = every n (λ k. not (eqb (get_or text (at + k) 0) 10))
+-- the field that starts at a place says a number, and a line feed ends its line
+pub record DigitsAsked (text : List ℕ) (from : ℕ) : Type 0 where
+  pub says : is_number (field_of (field_at text from)) ≡ true
+  pub ended : next_line text from ≤ length text
 
--- from one place to another in a line
-pub record InLine (text : List ℕ) (at place : ℕ) : Type 0 where
-  pub within : place ≤ length text
-  pub next : next_line text place ≡ next_line text at
-
--- the line of a place ends at another
-pub record LineEnds (text : List ℕ) (at place : ℕ) : Type 0 where
-  pub within : place ≤ length text
-  pub next : place + 1 ≡ next_line text at
+-- that number, and the place where the field ends
+pub record DigitsPassed (text : List ℕ) (from : ℕ) (result : FieldNumber) : Type 0 where
+  pub says : field_of (field_at text from) ≡ Some result.value
+  pub ends : result.next ≡ from + length (field_at text from)
 
 -- number k of the line at a place, and the place of the next line
 abbrev pub line_number : List ℕ → ℕ → ℕ → LineNumber

@@ -5,16 +5,13 @@ ghost use Rattle.std.specs.Prelude.{◌≡◌, ◌+◌, ◌-◌, ◌*◌, ◌≤
 ghost use Rattle.text_reader.specs.Field.{digit, largest};
 ghost use Rattle.text_reader.specs.Lines.{starts_as};
 ghost use Rattle.text_reader.specs.Reading.{line_at, leading_as, field_at, separator, rest_at, DigitsRead, starts_with, tab_before_sentinel, tabbed_at, EndsAs, ended_by_line_feed, record_at, at_end, Got, GotNumbers, GotNumbersAs};
-ghost use Rattle.text_reader.specs.Passing.{block_size, separator_weight, separators, Passing, FieldsPassed, stays_in_line, InLine, LineEnds, line_number};
+ghost use Rattle.text_reader.specs.Passing.{block_size, digit_weight, digits_in, NumbersAhead, Passing, FieldsPassed, DigitsAsked, DigitsPassed, PassedLine, line_number};
 
 // How many digits a field has at most.
 const MAX_DIGITS: usize = 10;
 
 // How many bytes are passed at once on the way to a number of a line.
-const BLOCK: usize = 16;
-
-// What a line feed counts among the separators of a block, where a tab counts 1: a block with as many tabs is passed byte by byte.
-const LINE_FEED: u8 = 15;
+const BLOCK: usize = 32;
 
 // The digit 0, as a byte of a text.
 const ZERO: u32 = 48;
@@ -291,59 +288,56 @@ pub fn head_at(text: &[u8], at: usize, letter: u8, out: &mut [u32]) -> bool
     !matches!(numbers_at(text, at, letter, out), Numbers::Missing)
 }
 
-// A byte among the separators of a block.
-fn separator_weight(b: u8) -> u8
-    ensures { result ≡ separator_weight b }
+// A byte among the digits of a line that has passed: behind the letter, digits alone have bit 4.
+fn digit_weight(b: u8) -> u8
+    ensures { result ≡ digit_weight b }
 {
-    match b {
-        b'\t' => 1,
-        b'\n' => LINE_FEED,
-        _ => 0,
-    }
+    (b >> 4) & 1
 }
 
-// The separators of the block at a place. By index, and without a test of a single byte: the compiler adds up all bytes of the block at once.
-fn separators_in(text: &[u8], at: usize) -> u8
+// The digits of the block at a place. By index, and without a test of a single byte: the compiler
+// adds up all bytes of the block at once.
+fn digits_in(text: &[u8], at: usize) -> u8
     requires { at + block_size ≤ length text.now }
-    ensures { result ≡ separators text.now at block_size }
+    ensures { result ≡ digits_in text.now at block_size }
 {
     let mut sum: u8 = 0;
     for k in 0..BLOCK {
-        sum += separator_weight(text[at + k]);
+        sum += digit_weight(text[at + k]);
     }
     sum
 }
 
-// Passes `n` fields of a line by whole blocks, as long as these have no line feed and no more tabs than are left to be passed.
+// Passes `n` fields of a line that has passed by whole blocks, as long as these have no more
+// separators than fields are left to be passed: the block that the line ends in has one more.
 fn past_blocks(text: &[u8], at: usize, n: usize) -> Passed
-    requires { at ≤ length text.now }
+    requires { NumbersAhead text.now at n }
     ensures { Passing text.now at n result }
 {
     let mut place = at;
     let mut left = n;
     while BLOCK <= text.len() - place {
-        let sum = separators_in(text, place);
-        if (LINE_FEED <= sum) | (left < sum as usize) {
+        let separators = BLOCK - digits_in(text, place) as usize;
+        if left < separators {
             break;
         }
-        left -= sum as usize;
+        left -= separators;
         place += BLOCK;
     }
     Passed { place, left }
 }
 
-// The place behind `n` fields of a line, or where its last one ends.
+// The place behind `n` fields of a line that has passed.
 fn past_fields(text: &[u8], at: usize, n: usize) -> usize
-    requires { at ≤ length text.now }
+    requires { NumbersAhead text.now at n }
     ensures { FieldsPassed text.now at n result }
 {
     let passed = past_blocks(text, at, n);
-    let mut left = passed.left;
     let mut place = passed.place;
-    while place < text.len() {
-        let b = text[place];
-        if is_separator(b) {
-            if b == b'\n' || left == 0 {
+    let mut left = passed.left;
+    loop {
+        if digit_weight(text[place]) == 0 {
+            if left == 0 {
                 break;
             }
             left -= 1;
@@ -353,56 +347,41 @@ fn past_fields(text: &[u8], at: usize, n: usize) -> usize
     place
 }
 
-// Whether no line feed stands in the block at a place. By index, and to its end: the compiler looks at all bytes of the block at once.
-fn stays_in_line(text: &[u8], at: usize) -> bool
-    requires { at + block_size ≤ length text.now }
-    ensures { result ≡ stays_in_line text.now at block_size }
+// The number whose digits start at a place of a line that has passed, and the place where its field
+// ends. Ten turns at most, which the compiler unrolls. Inlined, for check_plan's speed
+// (docs/MEASUREMENTS.md).
+#[inline(always)]
+fn passed_digits_from(text: &[u8], from: usize) -> FieldNumber
+    requires { DigitsAsked text.now from }
+    ensures { DigitsPassed text.now from result }
 {
-    let mut stays = true;
-    for k in 0..BLOCK {
-        stays &= text[at + k] != b'\n';
+    let mut value: u32 = u32::from(text[from]) - ZERO;
+    for k in 1..MAX_DIGITS {
+        let b = u32::from(text[from + k]);
+        if b < ZERO {
+            return FieldNumber {
+                value,
+                next: from + k,
+            };
+        }
+        value = value * 10 + (b - ZERO);
     }
-    stays
+    let end = from + MAX_DIGITS;
+    FieldNumber { value, next: end }
 }
 
-// Passes whole blocks without a line feed.
-fn past_line_blocks(text: &[u8], at: usize) -> usize
-    requires { at ≤ length text.now }
-    ensures { InLine text.now at result }
-{
-    let mut place = at;
-    while BLOCK <= text.len() - place && stays_in_line(text, place) {
-        place += BLOCK;
-    }
-    place
-}
-
-// Where the line of a place ends: the place of its line feed, or the end of the text.
-fn line_end(text: &[u8], at: usize) -> usize
-    requires { at ≤ length text.now }
-    ensures { LineEnds text.now at result }
-{
-    let mut place = past_line_blocks(text, at);
-    while place < text.len() && text[place] != b'\n' {
-        place += 1;
-    }
-    place
-}
-
-// Number `k` of the line at a place, from 0, or 0 where it has none; and the place of the next line. No other number is read: what stands before it and
-// behind it is passed by blocks.
-pub fn number_at(text: &[u8], at: usize, k: usize) -> LineNumber
-    requires { at ≤ length text.now }
+// Number `k` of a line that has passed, from 0, by how many numbers it has; and the place of the
+// next line. No other number is read: what stands before it and behind it is passed by blocks.
+pub fn number_at(text: &[u8], at: usize, k: usize, total: usize) -> LineNumber
+    requires passed { PassedLine text.now at total }
+    requires own { k < total }
     ensures { result ≡ line_number text.now at k }
 {
-    let end = past_fields(text, at, k);
-    let value = match tabbed_at(text, end) {
-        Some(found) => found.value,
-        None => 0,
-    };
+    let end = past_fields(text, at + 1, k);
+    let found = passed_digits_from(text, end + 1);
     LineNumber {
-        value,
-        next: line_end(text, end) + 1,
+        value: found.value,
+        next: past_fields(text, found.next, total - k - 1) + 1,
     }
 }
 

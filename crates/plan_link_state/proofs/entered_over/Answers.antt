@@ -14,7 +14,10 @@ pub returns-then-past-step : goal.returns-then-past-step
 returns-then-past-step c = no-past c.requires c.if-times-past.true c.if-past-step.true
 
 pub read_on-requires : goal.read_on-requires
-read_on-requires c = read_asked c.requires c.if-times-past.true c.if-past-step.false
+read_on-requires c = record {
+  asked = read_asked c.requires c.if-times-past.true c.if-past-step.false;
+  counted = c.requires.asked.tabled.counted.links;
+}
 
 pub returns-then-times-past : goal.returns-then-times-past
 returns-then-times-past c = past-told c.requires c.if-times-past.true c.if-past-step.false c.read_on.ensures.curve-to

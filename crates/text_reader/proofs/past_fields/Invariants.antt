@@ -3,8 +3,8 @@ use Rattle.base_laws.proofs.Kit.{◌-◌, length}
 use Rattle.text_reader.specs.Passing.{Passing}
 use Rattle.text_reader.proofs.past_fields.Given as goal
 
-abbrev pub invariant-loop-place : goal.invariant-loop-place
-invariant-loop-place l = Passing l.text l.at l.n (record { place = l.place; left = l.left })
+abbrev pub invariant-loop-left : goal.invariant-loop-left
+invariant-loop-left l = Passing l.text l.at l.n (record { place = l.place; left = l.left })
 
-abbrev pub decreases-loop-place : goal.decreases-loop-place
-decreases-loop-place l = length l.text - l.place
+abbrev pub decreases-loop-left : goal.decreases-loop-left
+decreases-loop-left l = length l.text - l.place
