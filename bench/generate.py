@@ -416,7 +416,7 @@ class Shape:
     past: int
     lengths: list  # of the plan's steps
     travel_times: list
-    trams: bool = False  # two at each signal, in every step
+    trams: bool = False  # two at each signal, one after the other, so that one is in every step
     ended: bool = True  # the plan's last line
     long: bool = False  # volumes as long as the limits of a past allow
 
@@ -431,6 +431,7 @@ FAMILIES = {
     "long past": Shape(1, 100, [60] * 20, [100 + 60 * i for i in range(24)], long=True),
     "shortest past": Shape(1, 60, [60] * 60, [60 + 60 * i for i in range(24)]),
     "longest past": Shape(1, 118, [60] * 2, [118 + i for i in range(24)]),
+    "longest past, trams": Shape(1, 118, [60] * 2, [118 + i for i in range(24)], trams=True),
     "full": Shape(1, 0, [60] * 120, [1 + i % 2 for i in range(24)]),
     "full, no line feed at the end": Shape(1, 0, [60] * 120, [1 + i % 2 for i in range(24)], ended=False),
 }
@@ -452,7 +453,9 @@ def shaped_network(shape):
     steps = [Step(length, [600_000] * 24) for length in shape.lengths]
     network = Network(signals, links, movements, steps, past=past)
     if shape.trams:
-        network.trams = [Tram(r, 1, 0, len(steps) - 1) for r in range(8)]
+        half, last = len(steps) // 2, len(steps) - 1
+        spans = [(0, half - 1), (half, last)] if half else [(0, last)]
+        network.trams = [Tram(r, 1, *span) for span in spans for r in range(8)]
     return network
 
 
