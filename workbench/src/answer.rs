@@ -1,5 +1,6 @@
 //! The verdict on a plan as JSON, for programs: `check --json` and `batch` write it.
 
+use crate::link_rows::LinkRow;
 use plancheck::{library_version, Refusal, Totals};
 use serde::Serialize;
 use serde_json::value::RawValue;
@@ -36,6 +37,8 @@ pub struct Named<'a> {
 enum Verdict {
     Accepted {
         totals: TotalNumbers,
+        #[serde(skip_serializing_if = "Option::is_none")]
+        links: Option<Vec<LinkRow>>,
     },
     Refused {
         refusal: RefusalNumbers,
@@ -77,6 +80,7 @@ impl<'a> Answer<'a> {
                     inside: totals.inside,
                     doubled_time: totals.doubled_time,
                 },
+                links: None,
             },
             Err(refusal) => Verdict::Refused {
                 refusal: RefusalNumbers {
@@ -90,6 +94,14 @@ impl<'a> Answer<'a> {
             },
         };
         Answer::of(named, verdict)
+    }
+
+    /// With what an accepted plan adds up to for each link.
+    pub fn with_links(mut self, rows: Vec<LinkRow>) -> Answer<'a> {
+        if let Verdict::Accepted { links, .. } = &mut self.verdict {
+            *links = Some(rows);
+        }
+        self
     }
 
     /// The answer of what was not judged.

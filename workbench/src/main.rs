@@ -4,6 +4,7 @@ mod answer;
 mod command;
 mod commands;
 mod files;
+mod link_rows;
 
 use clap::{CommandFactory, Parser};
 use command::{Ended, Outcome, Problem};

@@ -2,6 +2,8 @@
 //! reads what solvers take. It opens no file and prints nothing, so that a page or another language can take it too.
 
 pub mod cells;
+pub mod curve;
+pub mod delays;
 pub mod faults;
 pub mod flows;
 pub mod form;

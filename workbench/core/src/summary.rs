@@ -1,6 +1,7 @@
 //! What a run adds up to for a link and for a vehicle, from what the library says of each boundary. A curve is straight within
 //! a step, as the travel time takes it: a step adds its length times the mean of what stood at its start and at its end.
 
+use crate::delays::Spread;
 use crate::judge::Run;
 
 /// A doubled time, in thousandths of a vehicle times seconds, and the volume that spent it.
@@ -20,23 +21,52 @@ impl Spent {
 pub struct OfLink {
     /// In the queue: by those who stood in it at the start or came to the link's end since.
     pub delay: Spent,
+    pub spread: Option<Spread>,
     pub greatest_queue: u32,
     /// The first second of the greatest queue.
     pub greatest_at: u32,
     /// Of the steps in which the link took in all that rule 18 lets it: nobody else could enter.
     pub seconds_at_capacity: u32,
+    pub outside: Outside,
+    /// None for a link without a signal.
+    pub on_green: Option<OnGreen>,
+}
+
+/// Those who wait outside a link until they are admitted: at the start, and who came since.
+pub struct Outside {
+    pub delay: Spent,
+    pub spread: Option<Spread>,
+    pub most: u64,
+    /// The first second at which so many wait.
+    pub most_at: u32,
+    /// Who still waits.
+    pub at_the_end: u64,
+}
+
+/// What came to a link's end since the start, and how much of it in steps in which its signal opens the link.
+pub struct OnGreen {
+    pub arrived: u64,
+    pub on_green: u64,
+    pub seconds_open: u32,
+}
+
+/// What has arrived at a link's end by each boundary that passed, and what has left it.
+pub fn came_and_left(run: &Run, link: usize) -> [Vec<u64>; 2] {
+    let left = |boundary: usize| u64::from(run.volumes[boundary][link].left);
+    let came = |boundary: usize| left(boundary) + u64::from(run.states[boundary][link].queued);
+    [
+        (0..=run.passed).map(came).collect(),
+        (0..=run.passed).map(left).collect(),
+    ]
 }
 
 /// What the run adds up to by the last boundary that passed, for a link counted from 0.
 pub fn of_link(run: &Run, link: usize) -> OfLink {
-    let times = run.network.times();
-    let queued: Vec<u64> = run.states.iter().map(|states| states[link].queued.into()).collect();
+    let times = &run.network.times()[..=run.passed];
+    let [came, left] = came_and_left(run, link);
+    let queued: Vec<u64> = came.iter().zip(&left).map(|(came, left)| came - left).collect();
+    let (greatest, greatest_at) = greatest(times, &queued);
     let volumes = |boundary: usize| &run.volumes[boundary][link];
-    let came = u64::from(volumes(run.passed).left - volumes(0).left) + queued[run.passed];
-    let greatest = (0..=run.passed)
-        .rev()
-        .max_by_key(|&boundary| queued[boundary])
-        .unwrap_or(0);
     let is_full = |step: &usize| volumes(*step).entered - volumes(*step - 1).left == run.network.links[link].capacity;
     let full = (1..=run.passed)
         .filter(is_full)
@@ -44,12 +74,64 @@ pub fn of_link(run: &Run, link: usize) -> OfLink {
     OfLink {
         delay: Spent {
             doubled_time: doubled_time(run, &queued),
-            volume: came,
+            volume: came[run.passed] - left[0],
         },
-        greatest_queue: run.states[greatest][link].queued,
-        greatest_at: times[greatest],
+        spread: Spread::between(times, &came, &left),
+        greatest_queue: u32::try_from(greatest).unwrap_or(u32::MAX),
+        greatest_at,
         seconds_at_capacity: full.sum(),
+        outside: outside(run, times, link),
+        on_green: (run.network.links[link].signal > 0).then(|| on_green(run, link, &came)),
     }
+}
+
+/// What was offered and admitted by each boundary, of a link counted from 0: the texts say both.
+fn outside(run: &Run, times: &[u32], link: usize) -> Outside {
+    let mut offered = vec![u64::from(run.network.links[link].waiting)];
+    let mut admitted = vec![0];
+    for (step, line) in run.network.steps.iter().zip(&run.lines).take(run.passed) {
+        offered.push(offered[offered.len() - 1] + u64::from(step.demands[link]));
+        admitted.push(admitted[admitted.len() - 1] + u64::from(line.admitted[link]));
+    }
+    let waits: Vec<u64> = offered
+        .iter()
+        .zip(&admitted)
+        .map(|(offered, admitted)| offered - admitted)
+        .collect();
+    let (most, most_at) = greatest(times, &waits);
+    Outside {
+        delay: Spent {
+            doubled_time: doubled_time(run, &waits),
+            volume: offered[run.passed],
+        },
+        spread: Spread::between(times, &offered, &admitted),
+        most,
+        most_at,
+        at_the_end: waits[run.passed],
+    }
+}
+
+fn on_green(run: &Run, link: usize, came: &[u64]) -> OnGreen {
+    let mut told = OnGreen {
+        arrived: came[run.passed] - came[0],
+        on_green: 0,
+        seconds_open: 0,
+    };
+    let steps = run.network.steps.iter().zip(&run.lines).zip(came.windows(2));
+    for ((step, line), ends) in steps {
+        if run.network.links[link].is_open(&line.masks) {
+            told.on_green += ends[1] - ends[0];
+            told.seconds_open += step.length;
+        }
+    }
+    told
+}
+
+/// The greatest of some volumes, and the first second of it.
+fn greatest(times: &[u32], volumes: &[u64]) -> (u64, u32) {
+    let greatest = volumes.iter().copied().max().unwrap_or(0);
+    let place = volumes.iter().position(|&volume| volume == greatest).unwrap_or(0);
+    (greatest, times[place])
 }
 
 /// The travel time of all vehicles, and the part of it that they stood in a queue or waited outside. The vehicles are those of

@@ -3,9 +3,10 @@
 use crate::answer::{self, Answer};
 use crate::command::{Ended, Outcome};
 use crate::files::Named;
+use crate::link_rows::link_rows;
 use clap::Args;
 use std::io::Write;
-use workbench_core::judge::judge;
+use workbench_core::judge::{judge, Run};
 use workbench_core::network::Network;
 use workbench_core::plan::{has_no_volumes, NO_VOLUMES};
 use workbench_core::{show, words};
@@ -18,7 +19,7 @@ use workbench_core::{show, words};
 pub struct Arguments {
     #[command(flatten)]
     named: Named,
-    /// Print one JSON object
+    /// Print one JSON object, with delays and queues of each link
     #[arg(long)]
     json: bool,
 }
@@ -36,7 +37,9 @@ pub fn run(arguments: &Arguments, out: &mut dyn Write) -> Outcome {
             plan: Some(given.plan.display().to_string()),
             ..answer::Named::default()
         };
-        writeln!(out, "{}", Answer::new(named, &given.texts.network, answer).json())?;
+        let answer = Answer::new(named, &given.texts.network, answer);
+        let rows = Run::new(&given.texts).map(|run| link_rows(&run)).unwrap_or_default();
+        writeln!(out, "{}", answer.with_links(rows).json())?;
         return Ok(ended);
     }
     match answer {

@@ -8,6 +8,7 @@ mod compare;
 mod completions;
 mod explain;
 mod flows;
+mod links;
 mod listing;
 mod make;
 mod model;
@@ -44,6 +45,7 @@ pub enum Command {
     Explain(explain::Arguments),
     Report(report::Arguments),
     Wave(wave::Arguments),
+    Links(links::Arguments),
     States(states::Arguments),
     Rank(rank::Arguments),
     Batch(batch::Arguments),
@@ -68,6 +70,7 @@ impl Command {
             Command::Explain(arguments) => explain::run(&arguments, out),
             Command::Report(arguments) => report::run(&arguments, out),
             Command::Wave(arguments) => wave::run(&arguments, out),
+            Command::Links(arguments) => links::run(&arguments, out),
             Command::States(arguments) => states::run(&arguments, out),
             Command::Rank(arguments) => rank::run(&arguments, out),
             Command::Batch(arguments) => batch::run(&arguments, out),

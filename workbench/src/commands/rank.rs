@@ -2,32 +2,49 @@
 
 use crate::command::{Ended, Outcome, Problem};
 use crate::files::{plans_in, read, read_network, Found, NETWORK};
-use clap::Args;
+use clap::{Args, ValueEnum};
 use plancheck::{check_network, Refusal, Totals};
-use serde::Serialize;
 use std::io::{self, Write};
 use std::path::PathBuf;
 use std::time::{Duration, Instant};
-use workbench_core::judge::judge;
+use workbench_core::judge::{judge, Run};
 use workbench_core::plan::{has_no_volumes, NO_VOLUMES};
+use workbench_core::summary::of_vehicles;
 use workbench_core::texts::Texts;
 use workbench_core::{show, words};
 
-/// Judge many plans on one network, and sort them by travel time
+/// Judge many plans on one network, and sort them by travel time or another measure
 ///
 /// The plans are all .tsv files of the folders that start with P or are empty, and each PLAN; the network is that of the first
 /// folder, or is named first.
 #[derive(Args)]
 #[command(after_help = "Examples:
   workbench rank made
+  workbench rank made --by delay
   workbench rank network.tsv first.tsv second.tsv --csv")]
 pub struct Arguments {
     /// Folders with a network and plans; or a network, and plans
     #[arg(value_name = "FOLDER|NETWORK|PLAN", required = true)]
     named: Vec<PathBuf>,
+    /// What sorts them
+    #[arg(long, value_enum, default_value_t = By::Time)]
+    by: By,
     /// Print CSV with the library's numbers
     #[arg(long)]
     csv: bool,
+}
+
+/// What plans are sorted by.
+#[derive(Clone, Copy, PartialEq, Eq, ValueEnum)]
+enum By {
+    /// The travel time, the least first
+    Time,
+    /// What is let out, the most first
+    LetOut,
+    /// The greatest queue of a link at a boundary, the least first
+    Queue,
+    /// The time that vehicles stand in queues and wait outside, the least first
+    Delay,
 }
 
 struct Ranked {
@@ -35,6 +52,8 @@ struct Ranked {
     answer: Result<Totals, Refusal>,
     /// Whether it is accepted and nobody moves in it.
     has_no_volumes: bool,
+    /// The queue or the delay that it is sorted by: thousandths of a vehicle, or doubled and times seconds.
+    measure: Option<u64>,
 }
 
 pub fn run(arguments: &Arguments, out: &mut dyn Write) -> Outcome {
@@ -49,13 +68,16 @@ pub fn run(arguments: &Arguments, out: &mut dyn Write) -> Outcome {
             "there is no plan: neither a file that is named behind the network, nor a .tsv file beside {NETWORK} that starts with P"
         )));
     }
-    let mut ranked = judge_all(network.clone(), plans)?;
-    // The accepted ones come first, and those of one travel time as they were found.
-    ranked.sort_by_key(|plan| plan.answer.map_or((1, 0), |totals| (0, totals.doubled_time)));
+    let mut ranked = judge_all(network, plans, arguments.by)?;
+    // The accepted ones come first, those that are alike by travel time, and then as they were found.
+    ranked.sort_by_key(|plan| match &plan.answer {
+        Ok(totals) => (0, plan.key(totals, arguments.by), totals.doubled_time),
+        Err(_) => (1, 0, 0),
+    });
     if arguments.csv {
-        write_csv(out, &ranked)?;
+        write_csv(out, &ranked, arguments.by)?;
     } else {
-        write_table(out, &ranked)?;
+        write_table(out, &ranked, arguments.by)?;
     }
     let without = ranked.iter().filter(|plan| plan.has_no_volumes).count();
     if without > 0 {
@@ -73,6 +95,51 @@ pub fn run(arguments: &Arguments, out: &mut dyn Write) -> Outcome {
     } else {
         Ended::Done
     })
+}
+
+impl By {
+    /// What the totals of a plan do not have.
+    fn measure(self, texts: &Texts) -> Option<u64> {
+        match self {
+            By::Time | By::LetOut => None,
+            By::Queue => {
+                let run = Run::new(texts).ok()?;
+                let queues = run.states.iter().flatten().map(|state| u64::from(state.queued));
+                queues.max()
+            }
+            By::Delay => {
+                let [_, delay] = of_vehicles(&Run::new(texts).ok()?)?;
+                Some(delay.doubled_time)
+            }
+        }
+    }
+
+    /// The heading of the column that the measure has, in words and units, and its name in CSV.
+    fn column(self) -> Option<[&'static str; 3]> {
+        match self {
+            By::Time | By::LetOut => None,
+            By::Queue => Some(["greatest queue", "vehicles", "greatest_queue"]),
+            By::Delay => Some(["delay", "vehicle seconds", "doubled_delay"]),
+        }
+    }
+
+    fn show(self, measure: u64) -> String {
+        match self {
+            By::Delay => show::vehicle_seconds_in_column(measure),
+            _ => show::vehicles_in_column(measure),
+        }
+    }
+}
+
+impl Ranked {
+    /// The least comes first.
+    fn key(&self, totals: &Totals, by: By) -> u64 {
+        match by {
+            By::Time => totals.doubled_time,
+            By::LetOut => u64::MAX - totals.let_out,
+            By::Queue | By::Delay => self.measure.unwrap_or(u64::MAX),
+        }
+    }
 }
 
 /// The plans that are named, those of a folder by name; the first name is also that of the network. A folder that has another
@@ -105,7 +172,7 @@ fn tell_others(found: &Found) {
     }
 }
 
-fn judge_all(network: Vec<u8>, plans: Vec<PathBuf>) -> Result<Vec<Ranked>, Problem> {
+fn judge_all(network: Vec<u8>, plans: Vec<PathBuf>, by: By) -> Result<Vec<Ranked>, Problem> {
     let mut ranked = Vec::new();
     let mut texts = Texts {
         network,
@@ -120,6 +187,7 @@ fn judge_all(network: Vec<u8>, plans: Vec<PathBuf>) -> Result<Vec<Ranked>, Probl
             plan,
             answer,
             has_no_volumes: answer.is_ok_and(|totals| has_no_volumes(&texts, &totals)),
+            measure: if answer.is_ok() { by.measure(&texts) } else { None },
         });
         if told.elapsed() > Duration::from_secs(1) {
             eprintln!("workbench: {} of {count} plans judged", ranked.len());
@@ -129,15 +197,21 @@ fn judge_all(network: Vec<u8>, plans: Vec<PathBuf>) -> Result<Vec<Ranked>, Probl
     Ok(ranked)
 }
 
-fn write_table(out: &mut dyn Write, ranked: &[Ranked]) -> io::Result<()> {
-    writeln!(out, "rank      travel time   let out  at the end  plan")?;
-    writeln!(out, "      vehicle seconds  vehicles    vehicles")?;
+fn write_table(out: &mut dyn Write, ranked: &[Ranked], by: By) -> io::Result<()> {
+    // The column of the measure, where there is one, stands before the others.
+    let in_column = |words: &str| format!("{words:>16} ");
+    let heading = |place: usize| by.column().map_or(String::new(), |words| in_column(words[place]));
+    writeln!(out, "rank {}     travel time   let out  at the end  plan", heading(0))?;
+    writeln!(out, "     {} vehicle seconds  vehicles    vehicles", heading(1))?;
     for (place, plan) in ranked.iter().enumerate() {
         let name = plan.plan.display();
+        let measure = plan
+            .measure
+            .map_or(String::new(), |measure| in_column(&by.show(measure)));
         match &plan.answer {
             Ok(totals) => writeln!(
                 out,
-                "{:>4}  {:>15} {:>9} {:>11}  {name}{}",
+                "{:>4} {measure} {:>15} {:>9} {:>11}  {name}{}",
                 place + 1,
                 show::vehicle_seconds_in_column(totals.doubled_time),
                 show::vehicles_in_column(totals.let_out),
@@ -145,7 +219,8 @@ fn write_table(out: &mut dyn Write, ranked: &[Ranked]) -> io::Result<()> {
                 if plan.has_no_volumes { " (no volumes)" } else { "" },
             )?,
             Err(refusal) => {
-                writeln!(out, "   -  {:<39}{name}", in_short(refusal))?;
+                let width = 39 + heading(0).len();
+                writeln!(out, "   -  {:<width$}{name}", in_short(refusal))?;
             }
         }
     }
@@ -162,38 +237,29 @@ fn in_short(refusal: &Refusal) -> String {
     format!("R {number} {line} {item}{step}{kind}")
 }
 
-/// A line of the CSV: volumes in thousandths of a vehicle, the doubled time in thousandths of a vehicle times seconds, as the
-/// library gives them.
-#[derive(Serialize)]
-struct Line {
-    plan: String,
-    refusal: u32,
-    line: u32,
-    item: u32,
-    doubled_time: Option<u64>,
-    admitted: Option<u64>,
-    let_out: Option<u64>,
-    inside: Option<u64>,
-}
-
-fn write_csv(out: &mut dyn Write, ranked: &[Ranked]) -> Result<(), Problem> {
+/// Volumes in thousandths of a vehicle, the doubled times in thousandths of a vehicle times seconds, as the library gives them.
+fn write_csv(out: &mut dyn Write, ranked: &[Ranked], by: By) -> Result<(), Problem> {
     let mut table = csv::Writer::from_writer(out);
+    let numbers = ["doubled_time", "admitted", "let_out", "inside"];
+    let numbers: Vec<&str> = numbers
+        .into_iter()
+        .chain(by.column().map(|[_, _, name]| name))
+        .collect();
+    table.write_record(["plan", "refusal", "line", "item"].iter().chain(&numbers))?;
     for plan in ranked {
-        let totals = plan.answer.ok();
-        let (refusal, line, item) = plan
-            .answer
-            .err()
-            .map_or((0, 0, 0), |refusal| (refusal.number, refusal.line, refusal.item));
-        table.serialize(Line {
-            plan: plan.plan.display().to_string(),
-            refusal,
-            line,
-            item,
-            doubled_time: totals.map(|totals| totals.doubled_time),
-            admitted: totals.map(|totals| totals.admitted),
-            let_out: totals.map(|totals| totals.let_out),
-            inside: totals.map(|totals| totals.inside),
-        })?;
+        let mut fields = vec![plan.plan.display().to_string()];
+        match &plan.answer {
+            Ok(totals) => {
+                fields.extend(["0"; 3].map(str::to_string));
+                let totals = [totals.doubled_time, totals.admitted, totals.let_out, totals.inside];
+                fields.extend(totals.iter().chain(&plan.measure).map(u64::to_string));
+            }
+            Err(Refusal { number, line, item }) => {
+                fields.extend([number, line, item].map(u32::to_string));
+                fields.extend(numbers.iter().map(|_| String::new()));
+            }
+        }
+        table.write_record(fields)?;
     }
     Ok(table.flush()?)
 }

@@ -13,6 +13,19 @@ const REFUSED: &str = "\"answer\":\"refused\",\"refusal\":{\"number\":17,\"line\
     \"words\":\"refused with 17 in step 1 (line 1 of the plan text, seconds 0 to 10), link 1 (line 3 of the network text): \
     more has left than has arrived\"},\"version\":\"1.0.0\"}";
 
+const LINK_1: &str =
+    "\"came\":5000,\"mean_delay\":4.0,\"median_delay\":3.333,\"third_quartile_delay\":5.5,\"greatest_delay\":8.5,\
+    \"greatest_queue\":2000,\"greatest_queue_second\":20,\"seconds_at_capacity\":0,\
+    \"offered\":5000,\"mean_wait\":0.0,\"median_wait\":0.0,\"third_quartile_wait\":0.0,\"greatest_wait\":0.0,\
+    \"most_waiting\":0,\"most_waiting_second\":0,\"waiting_at_the_end\":0,\
+    \"arrived\":5000,\"arrived_on_green\":5000,\"seconds_open\":30";
+const LINK_2: &str =
+    "\"came\":5000,\"mean_delay\":0.0,\"median_delay\":0.0,\"third_quartile_delay\":0.0,\"greatest_delay\":0.0,\
+    \"greatest_queue\":0,\"greatest_queue_second\":0,\"seconds_at_capacity\":0,\
+    \"offered\":0,\"mean_wait\":null,\"median_wait\":null,\"third_quartile_wait\":null,\"greatest_wait\":null,\
+    \"most_waiting\":0,\"most_waiting_second\":0,\"waiting_at_the_end\":0,\
+    \"arrived\":null,\"arrived_on_green\":null,\"seconds_open\":null";
+
 /// A text as JSON has it.
 fn quoted(path: &str) -> String {
     let text = fs::read_to_string(path).unwrap();
@@ -24,9 +37,13 @@ fn check_as_json() {
     let folder = example("corridor");
     let said = workbench(&["check", "--json", &folder]);
     assert_eq!(said.status, 0);
+    let links = format!(",\"links\":[{{\"link\":1,{LINK_1}}},{{\"link\":2,{LINK_2}}}],\"version");
     assert_eq!(
         said.out,
-        format!("{{\"network\":\"{folder}/network.tsv\",\"plan\":\"{folder}/plan.tsv\",{ACCEPTED}\n")
+        format!(
+            "{{\"network\":\"{folder}/network.tsv\",\"plan\":\"{folder}/plan.tsv\",{}\n",
+            ACCEPTED.replace(",\"version", &links)
+        )
     );
     let folder = corridor_with("json_refused", "plan.tsv", 1, EARLY);
     let said = workbench(&["check", "--json", &folder]);

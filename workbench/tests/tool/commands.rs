@@ -254,6 +254,78 @@ fn rank_sorts_by_travel_time() {
     assert!(said.err.contains("1 of 3 plans are refused"));
 }
 
+/// Three plans of the corridor, of which each comes first by another measure.
+#[test]
+fn rank_by_other_measures() {
+    let folder = scratch("rank_by");
+    fs::copy(example("corridor/network.tsv"), folder.join("network.tsv")).unwrap();
+    let plan = fs::read_to_string(example("corridor/plan.tsv")).unwrap();
+    fs::write(folder.join("a.tsv"), &plan).unwrap();
+    // All but one of the five wait outside, so that none is queued.
+    let outside = plan
+        .replacen("P\t1\t5000", "P\t1\t0", 1)
+        .replace("3000", "0")
+        .replace("2000", "0");
+    fs::write(folder.join("b.tsv"), outside).unwrap();
+    fs::write(folder.join("c.tsv"), "P\t3\n").unwrap();
+    let name = folder.display().to_string();
+    let first = |by: &str| -> Vec<String> {
+        let said = workbench(&["rank", &name, "--csv", "--by", by]);
+        assert_eq!(said.status, 0, "{}", said.err);
+        let mut lines = said.out.lines();
+        let heads: Vec<&str> = lines.next().unwrap().split(',').skip(8).collect();
+        let fields: Vec<&str> = lines.next().unwrap().split(',').collect();
+        let file = fields[0].rsplit('/').next().unwrap();
+        [file]
+            .iter()
+            .chain(&heads)
+            .chain(&fields[8..])
+            .map(|word| (*word).to_string())
+            .collect()
+    };
+    assert_eq!(first("time"), ["a.tsv"]);
+    assert_eq!(first("let-out"), ["a.tsv"]);
+    assert_eq!(first("queue"), ["b.tsv", "greatest_queue", "0"]);
+    // Two stand for 10 s at most, 20 vehicle seconds.
+    assert_eq!(first("delay"), ["a.tsv", "doubled_delay", "40000"]);
+    let said = workbench(&["rank", &name, "--by", "queue"]);
+    let due = format!(
+        "rank   greatest queue      travel time   let out  at the end  plan\n\
+         \x20            vehicles  vehicle seconds  vehicles    vehicles\n\
+         \x20  1            0.000         175.0000     0.000       0.000  {name}/b.tsv (no volumes)\n\
+         \x20  2            2.000         120.0000     5.000       0.000  {name}/a.tsv\n\
+         \x20  -  R 9 1 0: step 1                                         {name}/c.tsv\n"
+    );
+    assert_eq!(said.out, due);
+    assert_eq!(workbench(&["rank", &name, "--by", "tme"]).status, 2);
+}
+
+#[test]
+fn links_as_csv() {
+    let said = workbench(&["links", &example("wave")]);
+    assert_eq!((said.status, said.err.as_str()), (0, ""));
+    let mut lines = said.out.lines();
+    let heads: Vec<&str> = lines.next().unwrap().split(',').collect();
+    assert_eq!(heads.len(), 21);
+    assert!(
+        lines.next().unwrap().starts_with("1,Harbour Road east,"),
+        "{}",
+        said.out
+    );
+    assert!(said.out.lines().all(|line| line.split(',').count() == heads.len()));
+    let said = workbench(&["links", &example("corridor")]);
+    assert!(
+        said.out.ends_with("\n1,,5000,4.0,3.333,5.5,8.5,2000,20,0,5000,0.0,0.0,0.0,0.0,0,0,0,5000,5000,30\n2,,5000,0.0,0.0,0.0,0.0,0,0,0,0,,,,,0,0,0,,,\n"),
+        "{}",
+        said.out
+    );
+    let refused = corridor_with("links_refused", "plan.tsv", 1, "P\t3\t0\t0\t0\t0\t0");
+    let said = workbench(&["links", &refused]);
+    assert_eq!((said.status, said.out.as_str()), (1, ""));
+    assert!(said.err.contains("refused with 10 in step 1"));
+    assert_eq!(workbench(&["links", &example("corridor"), "a", "b"]).status, 2);
+}
+
 #[test]
 fn rank_without_plans() {
     let folder = scratch("rank_without_plans");

@@ -45,10 +45,10 @@ fn the_corridor() {
     assert_eq!(count(&page, "<polyline class=\"arrived\""), 2);
     assert_eq!(count(&page, "class=\"broken"), 0);
     // link 1 is open in three steps and shut in one, in both of its pictures; link 2 has no signal. The diagram has one green on
-    // a line that is shut else, and a key for each.
+    // a line that is shut else, and a key for each; the picture of its cycle has a bar for each step, and a key.
     assert_eq!(
         (count(&page, "class=\"open\""), count(&page, "class=\"shut\"")),
-        (6 + 2, 2 + 2)
+        (6 + 2 + 3 + 1, 2 + 2 + 1)
     );
     assert!(page.contains("<th>mean travel time</th><td>24.0</td>"));
     // two of the five stand for 10 s at most: 2 * 10 / 2 at its rise, as much at its fall
@@ -106,8 +106,17 @@ fn row(page: &str, link: usize) -> Vec<String> {
 fn a_table_of_links() {
     let page = page(&example("corridor"));
     // Of link 1 two stand at second 20, after and before none: 20 vehicle seconds of five.
-    assert_eq!(row(&page, 1), ["1", "5", "4.0", "2", "20", "0"]);
-    assert_eq!(row(&page, 2), ["2", "5", "0.0", "0", "\u{2013}", "0"]);
+    // Its vehicles come at seconds 11, 13, .. 19; three leave from 10 to 20, two from 20 to 30.
+    let none = "\u{2013}";
+    assert_eq!(
+        row(&page, 1),
+        ["1", "5", "4.0", "3.3", "5.5", "8.5", "2", "20", "0", "100"]
+    );
+    assert_eq!(
+        row(&page, 2),
+        ["2", "5", "0.0", "0.0", "0.0", "0.0", "0", none, "0", none]
+    );
+    assert!(!page.contains("outside link"));
     assert!(page.contains("<section class=\"link\" id=\"link-1\">"));
     // A capacity of five is full in step 1, and in step 2, at whose start nobody has left.
     let full = self::page(&corridor_with(
@@ -116,7 +125,57 @@ fn a_table_of_links() {
         3,
         "Q\t5000\t10\t0\t1\t1\t0\t0",
     ));
-    assert_eq!(row(&full, 1)[5], "20");
+    assert_eq!(row(&full, 1)[8], "20");
+}
+
+/// The corridor with a demand of nine on an entry that holds five: the others wait, three of them to the end.
+#[test]
+fn a_table_of_those_outside() {
+    let folder = scratch("report_outside");
+    let network = fs::read_to_string(example("corridor/network.tsv")).unwrap();
+    let network = network
+        .replacen("Q\t60000", "Q\t5000", 1)
+        .replacen("S\t10\t5000", "S\t10\t9000", 1);
+    fs::write(folder.join("network.tsv"), network).unwrap();
+    let plan = fs::read_to_string(example("corridor/plan.tsv")).unwrap();
+    let plan = plan.replacen("P\t1\t0\t0\t0\t3000\t2000", "P\t1\t1000\t0\t0\t3000\t2000", 1);
+    fs::write(folder.join("plan.tsv"), plan).unwrap();
+    let page = page(&folder.display().to_string());
+    let (_, table) = page.split_once("<th>outside link</th>").unwrap();
+    // Nine come in the first ten seconds, of whom five are admitted in them and one from 20 to 30; three wait to the end.
+    // They wait 125 vehicle seconds in all; one by one 0.44, 1.33, 2.22, 3.11, 4, 18.9, 32.8, 31.7 and 30.6 s.
+    let due = "<td><a href=\"#link-1\">1</a></td><td>9</td><td>13.9</td><td>4.0</td><td>30.6</td><td>32.8</td><td>4</td><td>10</td><td>3</td>";
+    let row = &table[table.find("<tr>").unwrap() + 4..];
+    assert_eq!(&row[..row.find("</tr>").unwrap()], due);
+    assert_eq!(count(table, "<td>4</td><td>10</td>"), 1);
+}
+
+/// The signal of the corridor goes on with phase 2, and shows phase 1 from second 0 to 30.
+#[test]
+fn runs_beside_their_limits() {
+    let page = page(&example("corridor"));
+    for row in [
+        "<td>1</td><td>1</td><td>10</td><td>30</td><td class=\"runs\"><b>30</b></td>",
+        "<td></td><td>2</td><td>10</td><td>30</td><td class=\"runs\">\u{2026}10, 10\u{2026}</td>",
+        "<td></td><td>cycle</td><td>20</td><td>60</td><td class=\"runs\">\u{2026}20, 40\u{2026}</td>",
+    ] {
+        let row = row
+            .replace("\u{2026}10, ", "\u{2026}<b>10</b>, ")
+            .replace("\u{2026}20, ", "\u{2026}<b>20</b>, ");
+        assert!(page.contains(&row), "{row}");
+    }
+}
+
+#[test]
+fn arrivals_by_the_second_of_the_cycle() {
+    let page = page(&example("corridor"));
+    assert!(page.contains("5 vehicles come, 100 % of them on green; the link is open for 75 % of the time:"));
+    // one link has a signal; five vehicles come from second 10 to 20 of the cycle that begins with the plan
+    assert_eq!(count(&page, "aria-label=\"When in the cycle"), 1);
+    let (_, marks) = page.split_once("<path class=\"came-open\" d=\"").unwrap();
+    assert_eq!(marks.split('"').next().unwrap().matches('M').count(), 5);
+    assert_eq!(count(&page, "<path class=\"came-shut\""), 0);
+    assert!(page.contains("<title>seconds 0 to 40: 5 vehicles come on green, 0 on red</title>"));
 }
 
 #[test]

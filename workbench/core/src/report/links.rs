@@ -1,12 +1,13 @@
 //! Two pictures of each link: what has entered, arrived and left, and what is queued and in transit.
 
-use super::capital;
 use super::svg::{area_key, escape, figure, line_key, most_of, Frame, Point, LEFT};
+use super::{capital, cycles};
 use crate::judge::Run;
 use crate::names::Names;
 use crate::network::Link;
 use crate::plan::PlanLine;
 use crate::show;
+use crate::summary::of_link;
 use crate::why::{Drawn, Why};
 use plancheck::{ItemKind, Refusal, Text};
 use std::fmt::Write;
@@ -49,9 +50,12 @@ pub fn cards(run: &Run, names: &Names, refusal: Option<&Refusal>, why: Option<&W
         }
         let _ = writeln!(
             cards,
-            "<div class=\"pair\">{}{}</div>\n</section>",
+            "<div class=\"pair\">{}{}{}</div>\n</section>",
             curves(run, place, link, breaks),
-            queue(run, place, link, breaks)
+            queue(run, place, link, breaks),
+            of_link(run, place)
+                .on_green
+                .map_or(String::new(), |on_green| cycles::picture(run, place, &on_green))
         );
     }
     cards

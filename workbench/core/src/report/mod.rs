@@ -2,8 +2,10 @@
 
 mod cells;
 mod comparison;
+mod cycles;
 mod links;
 mod refusal;
+mod runs;
 mod shell;
 mod signals;
 mod svg;
@@ -100,12 +102,17 @@ fn pictures(texts: &Texts, run: &Run, names: &Names, refusal: Option<&Refusal>, 
     let totals = format!("<p>{}</p>\n{}", extent(run), whole::totals(run));
     page += &section("totals", "Totals", "", &totals);
     page += &section("table", "Table of links", TABLE, &table::links(run, names));
+    let outside = table::outside(run, names);
+    if !outside.is_empty() {
+        let _ = writeln!(page, "<p class=\"key\">{OUTSIDE}</p>\n{outside}");
+    }
     let diagrams = wave::diagrams(&texts.network, run, names, &wave::usual_paths(run));
     page += &section("wave", "Time and distance", WAVE, &diagrams);
     if !run.network.signals.is_empty() {
         let trams = if run.network.trams.is_empty() { "" } else { TRAMS };
         let picture = signals::picture(run, names, refusal, why);
         page += &section("signals", "Signals", &format!("{SIGNALS}{trams}"), &picture);
+        let _ = writeln!(page, "<p class=\"key\">{RUNS}</p>\n{}", runs::table(run, names));
     }
     page += &section("network", "The whole network", "", &whole::pictures(run));
     let past = if run.network.past > 0 { PAST } else { "" };
@@ -124,8 +131,12 @@ fn section(id: &str, title: &str, words: &str, shown: &str) -> String {
 }
 
 const TABLE: &str =
-    "The delay is the time in the link's queue, of the vehicles that came to its end. At capacity: the seconds of the \
-    steps in which the link took in all that it can hold, so that those behind had to wait.";
+    "The delay is the time in the link's queue, of the vehicles that came to its end, in their order; one that has not \
+    left by the end has waited until then. At capacity: the seconds of the steps in which the link took in all that it \
+    can hold, so that those behind had to wait. On green: of those who came to its end, how many while its signal \
+    opened the link.";
+const OUTSIDE: &str =
+    "Outside a link waits who has come and is not admitted; those who waited at the start waited from then on.";
 const WAVE: &str =
     "The way runs upwards, each link as high as its travel time; a second path runs downwards. The bar at a link's end is \
     thick and green while the signal opens the link, thin and red while it shuts it; above it a tram that claims the signal \
@@ -135,6 +146,10 @@ const SIGNALS: &str =
     "The number of the phase that each signal shows, over the seconds; left of second 0, the phase shown before \
     the plan.";
 const TRAMS: &str = " A hatched bar is a tram that claims the signal, with the phase that it asks for.";
+const RUNS: &str =
+    "How long each phase shows without a break and each cycle lasts, in the plan's order, beside the limits; bold is what \
+    reaches one. Dots stand where it began before second 0, whose seconds count, or goes on behind the end. Steps that a \
+    tram claims do not count.";
 const PAST: &str = "What has entered, arrived and left counts from the first past step on. ";
 const LINKS: &str =
     "The strip under the seconds is thick and green while the signal opens the link, thin and red while it shuts it.";

@@ -246,7 +246,7 @@ pub fn most_of(curves: &[&[Point]]) -> u64 {
 }
 
 /// Steps between the marks of seconds.
-const SECOND_UNITS: &[u64] = &[1, 2, 5, 10, 20, 30, 60, 120, 300, 600, 1200, 1800, 3600];
+pub const SECOND_UNITS: &[u64] = &[1, 2, 5, 10, 20, 30, 60, 120, 300, 600, 1200, 1800, 3600];
 
 /// Steps between the marks of volumes: 1, 2 and 5 times a power of ten, in thousandths.
 fn volume_units() -> Vec<u64> {
@@ -256,7 +256,7 @@ fn volume_units() -> Vec<u64> {
 }
 
 /// The multiples of the first unit that gives at most so many marks up to a greatest.
-fn marks(greatest: u64, count: u64, units: &[u64]) -> Vec<u64> {
+pub fn marks(greatest: u64, count: u64, units: &[u64]) -> Vec<u64> {
     let fits = |unit: &&u64| greatest / **unit <= count;
     let unit = units.iter().find(fits).or(units.last()).copied().unwrap_or(1);
     (0..=greatest / unit).map(|mark| mark * unit).collect()

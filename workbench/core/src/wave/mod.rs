@@ -2,7 +2,6 @@
 //! passes all of them without a stop, and vehicles on their way. Distances are drawn by travel time.
 
 mod band;
-mod curve;
 mod path;
 mod vehicles;
 
@@ -10,10 +9,10 @@ pub use band::{through_bands, Span};
 pub use path::{listed, main_path, way_back, Path};
 pub use vehicles::{every, Vehicle};
 
+use crate::curve::Curve;
 use crate::judge::Run;
 use crate::network::Network;
 use crate::records::{lines, record};
-use curve::Curve;
 
 /// A link of a path, and what the ledger and the plan say of it.
 pub struct Along {

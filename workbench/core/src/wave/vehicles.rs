@@ -3,6 +3,7 @@
 //! up the link's length by its capacity, and leaves when the ledger lets it, but not before its travel time has passed.
 
 use super::{Along, Wave};
+use crate::curve::Curve;
 
 /// The places of a vehicle: the second, and the distance from the path's start in seconds of travel.
 pub struct Vehicle {
@@ -147,7 +148,7 @@ pub fn every(wave: &Wave, most: f64) -> u32 {
         let along_the_path = place
             .checked_sub(1)
             .and_then(|before| wave.along[before].moved_on.as_ref());
-        along.entered.last() - along.left.at(0.0) - along_the_path.map_or(0.0, super::curve::Curve::last)
+        along.entered.last() - along.left.at(0.0) - along_the_path.map_or(0.0, Curve::last)
     };
     let volume: f64 = wave
         .along
@@ -164,7 +165,6 @@ pub fn every(wave: &Wave, most: f64) -> u32 {
 #[allow(clippy::float_cmp)]
 #[cfg(test)]
 mod tests {
-    use super::super::curve::Curve;
     use super::*;
 
     /// Two links of 10 s that hold 10 vehicles each; five enter evenly in 10 s, leave the first from second 20 to 30 and the
