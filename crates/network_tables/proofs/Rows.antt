@@ -1,8 +1,8 @@
 -- A line that is read into a row of a table.
 use Rattle.base_laws.proofs.Kit.{ℕ, ◌+◌, ◌-◌, ◌≤◌, ◌<◌, ◌≡◌, refl, sym, ap, ◌∙◌, Bool, List, ◌++◌, arith, length, take, drop, get_or, ext_get_or, length-append, length-drop, List·getD-append, length-take-le, get_or-drop, get_or-append-add, List·getD-eq-default}
-use Rattle.text_reader.specs.Lines.{lines, starts_as, number}
-use Rattle.text_reader.specs.Reading.{line_at, leading_as, record_at, Got}
-use Rattle.text_reader.proofs.Laws.{got-record, got-head, record-read, record-malformed, starts-line, starts-next}
+use Rattle.text_reader.specs.Lines.{lines, is_record, starts_as, number}
+use Rattle.text_reader.specs.Reading.{Starts, line_at, next_line, leading, leading_as, record_at, Got}
+use Rattle.text_reader.proofs.Laws.{Numbered, parts, record-numbers, over-all, got-record, got-head, record-read, record-malformed, starts-line, starts-next}
 use Rattle.model.specs.Network.{entry}
 use Rattle.model.specs.Table.{is_form}
 use Rattle.base_laws.specs.Indexed.{list}
@@ -10,7 +10,7 @@ use Rattle.base_laws.proofs.Laws.{length-list, get-list}
 use Rattle.network_tables.specs.Rows.{LineHeld, RowRead, ReadAgain, HeadRead}
 use Rattle.network_tables.specs.Blocks.{fields}
 use Rattle.base_search.specs.declared.Refusal.{Refusal}
-use Rattle.std.specs.Prelude.{Option, Some, None, Err, ok_or, unwrap_or}
+use Rattle.std.specs.Prelude.{true, Option, Some, None, Err, ok_or, unwrap_or}
 
 -- nothing stands behind a row
 behind : (before after : List ℕ) → length after ≡ length before → (k : ℕ) → length before ≤ k → get_or after k 0 ≡ get_or before k 0
@@ -112,6 +112,36 @@ row-refused (Some next) h = let z : ◌≡◌ {A = ℕ} 0 1 = cc in absurd (omeg
 pub again : {letter width : ℕ} {text : List ℕ} {at : ℕ} {before after : List ℕ} (r : Option ℕ) → RowRead letter width text at before r after → ReadAgain letter width text at before (unwrap_or r at) after
 again (Some next) row = record { size = row.size; held = λ i s f. row.held next refl i s }
 again None row = record { size = row.size; held = λ i s f. let m = row.malformed refl i s in let z : ◌≡◌ {A = ℕ} 0 1 = cc in absurd (omega arith) }
+
+-- where it is known to have passed
+module _ (letter : ℕ) (text : List ℕ) (at next : ℕ) (before after : List ℕ) (formed : is_record letter (length before) (line_at text at) ≡ true)
+    (g : Got (next_line text at) (leading (length before) (line_at text at).fields) before next after) where
+  numbers-again : Numbered (length before) (line_at text at) after
+  unfolding leading_as
+  numbers-again =
+      let own = (parts letter (length before) (line_at text at) formed).own in
+      let same : leading_as letter (length before) (line_at text at) ≡ leading (length before) (line_at text at).fields = rw own refl in
+      let n = rw same at (record-numbers letter (length before) (line_at text at) formed) in
+      rw (g.holds, over-all _ before n.count) n
+
+  pub passed_again : length after ≡ length before → ReadAgain letter (length before) text at before next after
+  unfolding is_form entry record_at
+  passed_again kept =
+      let read : record_at letter (length before) text at ≡ Some next = rw (formed, g.told) refl in
+      record {
+        size = kept;
+        held = λ i s f. record {
+          form = f;
+          numbers = λ k l. numbers-again.each k l ∙ ap (λ line. number line k) (starts-line text at i s);
+          starts = starts-next text at i s letter (length before) next read;
+        };
+      }
+
+-- a line that has passed stands where it starts, of which a row's first numbers are asked
+pub passed-there : (letter : ℕ) (text : List ℕ) (at i : ℕ) {width size : ℕ} → width ≡ size → Starts text at i → is_form (lines text) i letter width ≡ true
+    → is_record letter size (line_at text at) ≡ true
+unfolding is_form
+passed-there letter text at i e s f = rw (starts-line text at i s, ← e) f
 
 -- an array of so many numbers, when a line is read into it
 pub line-fields : {letter width : ℕ} {text : List ℕ} {i next : ℕ} {after : List ℕ} → LineHeld letter width text i next after → length after ≡ width → after ≡ fields (lines text) i width

@@ -2,13 +2,13 @@
 // and steps are counted from 0 here.
 #![tactic(auto)]
 
-ghost use Rattle.std.specs.Prelude.{◌≡◌, ◌+◌, ◌*◌, ◌<◌, ◌≤◌, length, get_or};
+ghost use Rattle.std.specs.Prelude.{◌≡◌, ◌+◌, ◌*◌, ◌<◌, ◌≤◌, true, length, get_or};
 ghost use Rattle.model.specs.Signals.{signal_fields};
 ghost use Rattle.model.specs.Network.{max_links, max_signals, max_movements, max_steps, max_trams, max_past};
 ghost use Rattle.network_tables.specs.Places.{tram_line_in, signal_line_in, link_line_in, movement_line_in, timeline_line_in, step_line_in, plan_width, Few};
 ghost use Rattle.network_tables.specs.Fields.{step_size, line_size, counts_by, tram_by, tram_row, link_by, link_row, movement_by, movement_row, length_in, demand_in, admitted_in, let_out_in, moved_in, entered_in, left_in, entered_at, left_at, RowHeld};
-ghost use Rattle.text_reader.specs.Lines.{lines};
-ghost use Rattle.text_reader.specs.Reading.{Starts};
+ghost use Rattle.text_reader.specs.Lines.{lines, is_record};
+ghost use Rattle.text_reader.specs.Reading.{Starts, line_at};
 ghost use Rattle.network_tables.specs.Rows.{RowRead, ReadAgain, HeadRead};
 ghost use Rattle.network_tables.specs.Blocks.{Block, Judges, RowsJudged, RowsHeld};
 ghost use Rattle.network_tables.specs.Sums.{Summed, EachFits, EachAdded};
@@ -300,11 +300,22 @@ pub fn read_row(text: &[u8], at: usize, letter: u8, row: &mut [u32]) -> Option<u
     text_reader::line_at(text, at, letter, row)
 }
 
-// Reads again a line that has passed, which is never malformed; returns the place of the next line.
+// Reads again a line that has passed, which is never malformed; returns the place of the next
+// line. For callers that promise something only of lines that have passed: `read_passed` takes less
+// time.
 pub fn read_again(text: &[u8], at: usize, letter: u8, row: &mut [u32]) -> usize
     ensures { ReadAgain letter (length row.old) text.now at row.old result row.new }
 {
     read_row(text, at, letter, row).unwrap_or(at)
+}
+
+// The same where it is required that the line of this letter has passed, so that none of its bytes
+// is tested again.
+pub fn read_passed(text: &[u8], at: usize, letter: u8, row: &mut [u32]) -> usize
+    requires passed { is_record letter (length row.old) (line_at text.now at) ≡ true }
+    ensures { ReadAgain letter (length row.old) text.now at row.old result row.new }
+{
+    text_reader::passed_line_at(text, at, row)
 }
 
 // Reads the beginning of a line of this letter: the numbers that fill a row, whatever follows them. Returns a `bool`,

@@ -1,6 +1,7 @@
 -- What is known while the lines of a step are read.
-use Rattle.base_laws.proofs.Kit.{ℕ, ◌+◌, ◌<◌, ◌≡◌, refl, ap, ap₂, ◌∙◌, true, List, ◌++◌, add-one, dec_lt, arith, length, take, drop, replicate, length-replicate, get_or-replicate, List·getD-eq-default}
-use Rattle.text_reader.specs.Lines.{Line, lines}
+use Rattle.base_laws.proofs.Kit.{ℕ, ◌+◌, ◌<◌, ◌≡◌, refl, ap, ap₂, ◌∙◌, true, List, ◌++◌, add-one, dec_lt, arith, length, take, length-take-le, drop, replicate, length-replicate, get_or-replicate, List·getD-eq-default}
+use Rattle.text_reader.specs.Lines.{Line, lines, is_record}
+use Rattle.text_reader.specs.Reading.{line_at}
 use Rattle.model.specs.declared.Signal.{Signal}
 use Rattle.model.specs.Signals.{phase_of}
 use Rattle.model.specs.Network.{max_signals, max_steps, link_count, signal_count, step_line, signal}
@@ -13,7 +14,7 @@ use Rattle.network_tables.specs.declared.Counts.{Counts}
 use Rattle.network_tables.specs.Fields.{step_size, line_size, signal_at}
 use Rattle.network_tables.specs.Rows.{ReadAgain}
 use Rattle.network_tables.specs.Tables.{CountsHold, StepNumbers, PlanNumbers}
-use Rattle.network_tables.proofs.Rows.{again_joined}
+use Rattle.network_tables.proofs.Rows.{again_joined, passed-there}
 use Rattle.network_tables.proofs.Tables.{shown-mask-at}
 use Rattle.network_trams.specs.Claims.{ClaimsAsked, Claimed}
 use Rattle.network_trams.proofs.Claims.{claims-ready}
@@ -77,6 +78,11 @@ module _ {run : Run} {place : Place} {signals : List Signal} {lent : Lines} (ask
   pub claims-asked : ClaimsAsked run.trams.now n (replicate max_signals 0)
   claims-asked =
       claims-ready asked.tram-table counted valid.trams few-steps (length-replicate {A = ℕ} max_signals 0) (λ r l. get_or-replicate {A = ℕ} max_signals r 0 0 l)
+
+  pub step-passed : {width : ℕ} → width ≡ 1 + counts.links → is_record letter_s (length (take width lent.step)) (line_at network_text place.step_at) ≡ true
+  step-passed {width} wide =
+      passed-there letter_s network_text place.step_at (step_line net n) (omega (arith, wide, counted.links, length-take-le width lent.step (omega (arith, wide, counted.few.links, asked.lent.step-size))))
+      asked.at.step-starts form
 
   module _ {width : ℕ} (wide : width ≡ 1 + counts.links) {step_at : ℕ} {part : List ℕ}
       (read-again : ReadAgain letter_s (length (take width lent.step)) network_text place.step_at (take width lent.step) step_at part) where

@@ -185,7 +185,7 @@ impl Run<'_> {
         ensures { ReadGot self.now.tables.now.text.now self.now.plan.now place result lines.new }
     {
         let counts = self.tables.reading.counts;
-        let step_at = network_tables::read_again(
+        let step_at = network_tables::read_passed(
             self.tables.text,
             place.step_at,
             b'S',

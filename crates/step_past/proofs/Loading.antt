@@ -1,8 +1,8 @@
 -- Row 0 and the curves at boundary 0, one `H` line after another.
-use Rattle.base_laws.proofs.Kit.{ℕ, suc, ◌+◌, ◌*◌, ◌-◌, ◌/◌, ◌%◌, ◌≤◌, ◌<◌, ◌≡◌, refl, sym, ap, ap₂, ◌∙◌, List, [], ℕ_discrete, add-one, arith, length, ◌++◌, take, drop, length-append, List·getD-append, length-take, length-take-le, length-drop, get_or, get_or-take, get_or-drop}
+use Rattle.base_laws.proofs.Kit.{ℕ, suc, ◌+◌, ◌*◌, ◌-◌, ◌/◌, ◌%◌, ◌≤◌, ◌<◌, ◌≡◌, refl, sym, ap, ap₂, ◌∙◌, true, List, [], ℕ_discrete, add-one, arith, length, ◌++◌, take, drop, length-append, List·getD-append, length-take, length-take-le, length-drop, get_or, get_or-take, get_or-drop}
 use Rattle.std.specs.Prelude.{Option, Some, None}
-use Rattle.text_reader.specs.Lines.{Line, lines}
-use Rattle.text_reader.specs.Reading.{Starts}
+use Rattle.text_reader.specs.Lines.{Line, lines, is_record}
+use Rattle.text_reader.specs.Reading.{Starts, line_at}
 use Rattle.base_laws.specs.Sum.{sum}
 use Rattle.model.specs.Network.{link_count, past_count, on_timeline, timeline_line, past_exits}
 use Rattle.model.specs.Flows.{timeline_entered, timeline_left, timeline_outflow}
@@ -15,6 +15,7 @@ use Rattle.network_tables.specs.Fields.{past_size, past_entries_in, standing_in,
 use Rattle.network_tables.specs.Rows.{LineHeld, ReadAgain}
 use Rattle.network_tables.specs.Sums.{Overflow, Summed}
 use Rattle.network_tables.specs.Tables.{PastNumbers}
+use Rattle.network_tables.proofs.Rows.{passed-there}
 use Rattle.network_tables.proofs.Tables.{standing-at, travel-time-at, past-entries-at, past-exits-at}
 use Rattle.step_arrivals.specs.Arrivals.{arrival_step_in}
 use Rattle.step_arrivals.proofs.Boundaries.{arrival-is}
@@ -88,6 +89,11 @@ module _ {tables : NetworkTables} {before : List ℕ} {arrivals₀ : List Arriva
 
       kept-all : (k : ℕ) → 2 * counts.links ≤ k → get_or row k 0 ≡ get_or before k 0
       kept-all k l = inv.kept k l ∙ started.kept k (omega (arith, tables.sized.link-size))
+
+      pub line-passed : m < counts.past → {width : ℕ} → width ≡ 1 + 2 * counts.links → width ≤ length fields → is_record letter_h (length (take width fields)) (line_at text place) ≡ true
+      line-passed h {width} w room =
+          passed-there letter_h text place (timeline_line (lines text) m) (omega (arith, w, asked.counted.links, length-take-le width fields room)) inv.starts
+          (asked.forms m (omega (arith, asked.counted.past)))
 
       module _ (h : m < counts.past) {width : ℕ} (w : width ≡ 1 + 2 * counts.links) {next : ℕ} {after : List ℕ} (read : ReadAgain letter_h width text place fields next after)
           {fit : Option (Unit {0})} {row' : List ℕ} (summed : Summed (take (width - 1) (drop 1 after)) row fit row') where

@@ -1,13 +1,14 @@
 -- The links moved on from one boundary to the next, by `H` lines that are read once for all links at them, or by a number of each.
-use Rattle.base_laws.proofs.Kit.{ℕ, zero, suc, ◌+◌, ◌*◌, ◌-◌, ◌≤◌, ◌<◌, ◌≡◌, refl, ap, ◌∙◌, List, ℕ_discrete, dec_le, add-one, arith, length, get_or, set, length-set, get_or-set_same, get_or-set_other}
-use Rattle.text_reader.specs.Lines.{lines}
-use Rattle.text_reader.specs.Reading.{Starts}
+use Rattle.base_laws.proofs.Kit.{ℕ, zero, suc, ◌+◌, ◌*◌, ◌-◌, ◌≤◌, ◌<◌, ◌≡◌, refl, ap, ◌∙◌, true, List, ℕ_discrete, dec_le, add-one, arith, length, take, length-take-le, get_or, set, length-set, get_or-set_same, get_or-set_other}
+use Rattle.text_reader.specs.Lines.{lines, is_record}
+use Rattle.text_reader.specs.Reading.{Starts, line_at}
 use Rattle.model.specs.Network.{max_links, link_count, past_count, timeline_line}
 use Rattle.model.specs.Table.{letter_h}
 use Rattle.network_tables.specs.declared.NetworkTables.{NetworkTables}
 use Rattle.network_tables.specs.Fields.{past_size, travel_time_in, past_entries_in}
 use Rattle.network_tables.specs.Rows.{LineHeld, ReadAgain}
 use Rattle.network_tables.specs.Tables.{PastNumbers}
+use Rattle.network_tables.proofs.Rows.{passed-there}
 use Rattle.network_tables.proofs.Tables.{past-entries-at}
 use Rattle.step_arrivals.specs.Arrivals.{arrival_step_in}
 use Rattle.step_arrivals.proofs.Arrivals.{arrival-on, arrival-reached}
@@ -118,6 +119,13 @@ module _ {tables : NetworkTables} {at i to : ℕ} {before : List Arrival} (asked
       times-asked =
           let r = own_behind.cursor.rising in
           (r.room, omega (arith, boundary-time tables.times.now at r.rises, r.small at (omega arith)), omega (arith, own_behind.cursor.room, asked.is-step), omega (arith, reached))
+
+      pub line-passed : {width : ℕ} → width ≡ 1 + 2 * tables.reading.counts.links → width ≤ length fields
+          → is_record letter_h (length (take width fields)) (line_at tables.text.now (arrival_at arrivals i).place) ≡ true
+      line-passed {width} w room =
+          passed-there letter_h tables.text.now (arrival_at arrivals i).place (timeline_line (lines tables.text.now) (from + 1))
+          (omega (arith, w, asked.asked.move-tables.counted.links, length-take-le width fields room)) (own_behind.curved (omega (arith, step_past))).starts
+          (asked.asked.move-tables.forms (from + 1) step_past)
 
       module _ {width : ℕ} (w : width ≡ 1 + 2 * tables.reading.counts.links) {next : ℕ} {after : List ℕ} (read : ReadAgain letter_h width tables.text.now (arrival_at arrivals i).place fields next after) where
         line-read : LineHeld letter_h (1 + 2 * link_count (lines tables.text.now)) tables.text.now (timeline_line (lines tables.text.now) (from + 1)) next after

@@ -147,7 +147,7 @@ pub fn load_past(tables: &NetworkTables, row: &mut [u32], arrivals: &mut [Arriva
     let mut fields = [0u32; PAST_SIZE];
     let mut place = tables.reading.past_at;
     for step in 0..counts.past {
-        place = network_tables::read_again(tables.text, place, b'H', &mut fields[..width]);
+        place = network_tables::read_passed(tables.text, place, b'H', &mut fields[..width]);
         network_tables::add_numbers(&fields[1..width], row)?;
         let line = PastLine {
             step,
@@ -195,7 +195,7 @@ fn move_by_lines(tables: &NetworkTables, at: usize, i: usize, to: usize, arrival
     while arrivals[i].step < to {
         let step = arrivals[i].step + 1;
         let place = arrivals[i].place;
-        let next = network_tables::read_again(tables.text, place, b'H', &mut fields[..width]);
+        let next = network_tables::read_passed(tables.text, place, b'H', &mut fields[..width]);
         let line = PastLine {
             step,
             fields: &fields,

@@ -10,6 +10,7 @@ pub mod Opened
 mod Tests
 mod Turns
 mod PassedDigits
+mod Again
 mod Looks
 mod Sentinel
 mod Texts

@@ -8,7 +8,7 @@ use Rattle.text_reader.specs.declared.FieldNumber.{FieldNumber}
 use Rattle.text_reader.specs.declared.Passed.{Passed}
 use Rattle.text_reader.specs.Field.{digit, digits, decimal, largest, is_numeral, field_of}
 use Rattle.text_reader.specs.Lines.{split, letter_of, no_letter, is_number, all_numbers, number_of, number}
-use Rattle.text_reader.specs.Reading.{line_at, next_line, field_at, separator}
+use Rattle.text_reader.specs.Reading.{line_at, next_line, field_at, located, separator, tabbed_at}
 use Rattle.text_reader.specs.Passing.{block_size, digit_weight, digits_in, NumbersAhead, Passing, FieldsPassed, DigitsAsked, DigitsPassed, PassedLine}
 use Rattle.text_reader.proofs.Bytes.{piece, first, others, piece-feed, piece-on, first_on, others-tab, others-on}
 use Rattle.text_reader.proofs.Numerals.{digit-bounds}
@@ -293,6 +293,10 @@ module _ {text : List ℕ} {at : ℕ} (left : NumbersLeft text at) where
       pub found-fields : (line_at text at).fields ≡ Some found.value ∷ (line_at text found.next).fields
       found-fields = on-from.fields
 
+      pub found-tabbed : tabbed_at text at ≡ Some found
+      unfolding tabbed_at located
+      found-tabbed = rw (eq-eqb (get_or text at 0) 9 tab-there, d.says, ← d.ends) refl
+
       pub found-next : next_line text found.next ≡ next_line text at
       found-next = sym on-from.next
 
@@ -341,7 +345,7 @@ module _ {text : List ℕ} {at total : ℕ} (passed : PassedLine text at total) 
   pub letter-within : at < length text
   letter-within = (field-some text at (λ z. omega (arith, one))).0
 
-  past-letter : Onward text at (at + 1) (line_at text (at + 1)).fields
+  pub past-letter : Onward text at (at + 1) (line_at text (at + 1)).fields
   past-letter = let e : end_of text at ≡ at + 1 = omega (arith, one) in rw e at (past-field text at)
 
   pub letter-left : NumbersLeft text (at + 1)

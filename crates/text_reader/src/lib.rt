@@ -4,7 +4,7 @@
 ghost use Rattle.std.specs.Prelude.{◌≡◌, ◌+◌, ◌-◌, ◌*◌, ◌≤◌, ◌<◌, length, get_or, [], eqb, SomeIff};
 ghost use Rattle.text_reader.specs.Field.{digit, largest};
 ghost use Rattle.text_reader.specs.Lines.{starts_as};
-ghost use Rattle.text_reader.specs.Reading.{line_at, leading_as, field_at, separator, rest_at, DigitsRead, starts_with, tab_before_sentinel, tabbed_at, EndsAs, ended_by_line_feed, record_at, at_end, Got, GotNumbers, GotNumbersAs};
+ghost use Rattle.text_reader.specs.Reading.{line_at, next_line, leading, leading_as, field_at, separator, rest_at, DigitsRead, starts_with, tab_before_sentinel, tabbed_at, EndsAs, ended_by_line_feed, record_at, at_end, Got, GotNumbers, GotNumbersAs};
 ghost use Rattle.text_reader.specs.Passing.{block_size, digit_weight, digits_in, NumbersAhead, Passing, FieldsPassed, DigitsAsked, DigitsPassed, PassedLine, line_number};
 
 // How many digits a field has at most.
@@ -368,6 +368,23 @@ fn passed_digits_from(text: &[u8], from: usize) -> FieldNumber
     }
     let end = from + MAX_DIGITS;
     FieldNumber { value, next: end }
+}
+
+// Reads again a line that has passed, whose numbers fill `out`: none of its bytes is tested but
+// where a number ends. Returns the place of the next line. Not inlined, for check_plan's speed
+// (docs/MEASUREMENTS.md).
+#[inline(never)]
+pub fn passed_line_at(text: &[u8], at: usize, out: &mut [u32]) -> usize
+    requires { PassedLine text.now at (length out.old) }
+    ensures { Got (next_line text.now at) (leading (length out.old) (line_at text.now at).fields) out.old result out.new }
+{
+    let mut i = at + 1;
+    for number in out.iter_mut() {
+        let found = passed_digits_from(text, i + 1);
+        *number = found.value;
+        i = found.next;
+    }
+    i + 1
 }
 
 // Number `k` of a line that has passed, from 0, by how many numbers it has; and the place of the
