@@ -106,9 +106,9 @@
  * plancheck_. On a box it makes no unaligned access: the processor may trap them. All targets are little-endian.
  *
  * TIME
- * At most, as far as inputs were searched for, none of which broke these (docs/MEASUREMENTS.md): the instructions on
- * x86-64, and the time on a Cortex-M0 at 48 MHz whose memory never waits, by estimate, of the library and of the
- * narrowed one.
+ * At most, of all inputs that a search tried (docs/MEASUREMENTS.md): the instructions on x86-64, and the time on a
+ * Cortex-M0 at 48 MHz whose memory never waits, by estimate, of the library and of the narrowed one. No proof says that
+ * no input takes more.
  *     call                            x86-64   Cortex-M0    narrowed
  *     plancheck_check_network      1,006,370       64 ms       42 ms
  *     plancheck_network_counts     1,006,377       64 ms       42 ms
