@@ -1,4 +1,8 @@
 // Runs the cases of a file.
+ghost use Rattle.std.specs.Prelude.{◌++◌, IfOk};
+ghost use Rattle.std.specs.Int.{w32, to_le_bytes};
+ghost use Rattle.std.specs.Io.KnownBytes.{Consumes, IsAtEnd};
+
 use crate::reading::{Malformed, read_array, read_u32};
 use crate::tally::{add_one, print_counts};
 use std::fs::File;
@@ -14,8 +18,14 @@ pub struct Form {
     pub passed_over: u32,
 }
 
-// The files of every program: the stored cases, and some with a wrong answer on purpose.
-pub const PATHS: [&str; 2] = ["cases.bin", "wrong_answer.bin"];
+// The files of every program: the stored cases; some with a wrong answer on purpose; and two without cases that are
+// malformed, one of another version, and one with a byte behind its end.
+pub const PATHS: [&str; 4] = [
+    "cases.bin",
+    "wrong_answer.bin",
+    "other_version.bin",
+    "one_byte_more.bin",
+];
 
 // Runs the files of a program, and prints each counter under its name. The counts are lent: the prover does not take an
 // array of references whose length is a parameter. Here and below `run_case` has no precondition (`IsAlwaysCallable`),
@@ -36,7 +46,8 @@ pub fn run<R: Files + Print, F: Fn(&mut R::File, u32) -> Result<usize, Malformed
 }
 
 // Runs each case of a file, numbered from 0, and counts it where `run_case` says. Prints the file's name and how many
-// cases it has, or that it is malformed: a case is, or bytes are left over. A failed write is ignored.
+// cases it has, or that it is malformed: a case is, its version is another, or bytes are left over. A failed write is
+// ignored.
 pub fn run_file<R: Files + Print, F: FnMut(&mut R::File, u32) -> Result<usize, Malformed>>(
     rt: &R,
     path: &str,
@@ -46,41 +57,49 @@ pub fn run_file<R: Files + Print, F: FnMut(&mut R::File, u32) -> Result<usize, M
 )
     requires { F.IsAlwaysCallable run_case }
 {
-    let _ = match run_cases(rt, path, form, counts, run_case) {
+    let Ok(mut file) = File::open(rt, path) else {
+        let _ = println!(rt; "{path} can't be opened");
+        return;
+    };
+    let _ = match run_cases(&mut file, form, counts, run_case) {
         Ok(count) => println!(rt; "{path}\t{count}"),
-        Err(_) => println!(rt; "{path} can't be read, or is malformed"),
+        Err(_) => println!(rt; "{path} is malformed"),
     };
 }
 
-// Runs and counts each case of a file; returns how many there are.
-fn run_cases<R: Files, F: FnMut(&mut R::File, u32) -> Result<usize, Malformed>>(
-    files: &R,
-    path: &str,
+// Runs and counts each case of a file, to the end of the file; returns how many there are. Of the cases nothing is
+// promised here: what `run_case` does with a file that it is lent, its contract says.
+fn run_cases<R: Read, F: FnMut(&mut R, u32) -> Result<usize, Malformed>>(
+    file: &mut R,
     form: Form,
     counts: &mut [u64],
     mut run_case: F,
 ) -> Result<u32, Malformed>
     requires { F.IsAlwaysCallable run_case }
+    ensures { IfOk result (λ _. IsAtEnd (R.remaining file.new)) }
 {
-    let mut file = File::open(files, path)?;
-    let count = read_header(&mut file, form)?;
-    for number in 0..count {
-        add_one(counts, run_case(&mut file, number)?);
+    let count = read_header(file, form)?;
+    for _ in 0..form.passed_over {
+        read_u32(file)?;
     }
-    if read_array::<_, 1>(&mut file).is_ok() {
+    for number in 0..count {
+        add_one(counts, run_case(file, number)?);
+    }
+    if file.read(&mut [0])? != 0 {
         return Err(Malformed);
     }
     Ok(count)
 }
 
-// Reads the beginning of a file; returns how many cases follow.
-fn read_header(file: &mut impl Read, form: Form) -> Result<u32, Malformed> {
-    if read_array(file)? != form.mark || read_u32(file)? != form.version {
-        return Err(Malformed);
-    }
+// Reads the beginning of a file, which has the mark and the version of its form; returns how many cases the file has.
+fn read_header<R: Read>(file: &mut R, form: Form) -> Result<u32, Malformed>
+    ensures { IfOk result (λ count. Consumes (R.remaining file.old) (R.remaining file.new) (form.mark ++ to_le_bytes w32 form.version ++ to_le_bytes w32 count)) }
+{
+    let mark = read_array(file)?;
+    let version = read_u32(file)?;
     let count = read_u32(file)?;
-    for _ in 0..form.passed_over {
-        read_u32(file)?;
+    if mark != form.mark || version != form.version {
+        return Err(Malformed);
     }
     Ok(count)
 }

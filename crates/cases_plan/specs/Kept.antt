@@ -11,7 +11,7 @@ kept_in room None = None
 kept_in room (Some n) = Some (take n room)
 
 module _ {R T : Type 0} (bytes : R → Option (List ℕ)) (returns : MutBor R → MutBor (List T) → Result (Unit {0}) Malformed → MutBor R → MutBor (List T) → Type 0) where
-  -- the length of the items was read, and a call read on behind it, into a room
+  -- the length of the items was read, and a call read on behind it, and filled a room with them
   pub record Given (before after : R) (items : List T) : Type 0 where
     pub shown : MutBor R
     pub counted : Consumes (bytes before) (bytes shown.now) (to_le_bytes w32 (length items))
@@ -20,7 +20,10 @@ module _ {R T : Type 0} (bytes : R → Option (List ℕ)) (returns : MutBor R �
     pub filled : MutBor (List T)
     pub gave : returns shown room (Ok tt) left filled
     pub leaves : left.now ≡ after
+    pub items-are : filled.now ≡ items
 
-  -- that, or the mark of what the case before had
-  abbrev pub GoesOn : Option (List T) → R → R → List T → Type 0
-  GoesOn had before after items = (Consumes (bytes before) (bytes after) (to_le_bytes w32 4_294_967_295) × (had ≡ Some items)) ⊎ Given before after items
+  -- the mark of what the case before had was read, and that is kept; or items are given, and these are kept
+  abbrev pub GoesOn : Option (List T) → R → R → Option (List T) → Type 0
+  GoesOn had before after has =
+      (Consumes (bytes before) (bytes after) (to_le_bytes w32 4_294_967_295) × (has ≡ had))
+      ⊎ (items : List T) × Given before after items × (has ≡ Some items)

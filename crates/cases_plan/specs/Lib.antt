@@ -4,3 +4,4 @@ pub mod Outcome
 pub mod Kept
 pub mod Stored
 pub mod Compare
+pub mod Tally

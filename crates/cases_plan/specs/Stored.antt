@@ -1,5 +1,5 @@
 -- The parts of a case in the stored form.
-use Rattle.std.specs.Prelude.{ℕ, ◌≡◌, ◌≤◌, ◌^◌, ◌⊎◌, List, [], ◌++◌, length, Option, MatchOption}
+use Rattle.std.specs.Prelude.{ℕ, ◌≡◌, ◌≤◌, ◌^◌, ◌⊎◌, List, [], ◌++◌, length, drop, replicate, Option, MatchOption}
 use Rattle.std.specs.Int.{w32, w64, to_le_bytes}
 use Rattle.cases_plan.specs.Call.{call_number}
 use Rattle.cases_plan.specs.declared.answers.Question.{Question}
@@ -12,6 +12,13 @@ use Rattle.cases_plan.specs.declared.stored.Reported.{Reported}
 
 abbrev pub filled_bytes : Filled → List ℕ
 filled_bytes filled = to_le_bytes w32 filled.length ++ to_le_bytes w32 filled.fill
+
+-- a ledger or a buffer that holds one number everywhere; the first ledger begins with given numbers
+abbrev pub filled_with : Filled → List ℕ
+filled_with filled = replicate filled.length filled.fill
+
+abbrev pub ledger_of : Filled → List ℕ → List ℕ
+ledger_of filled start = start ++ drop (length start) (filled_with filled)
 
 abbrev pub asked_bytes : Asked → List ℕ
 asked_bytes asked = filled_bytes asked.buffer ++ to_le_bytes w32 (call_number asked.call) ++ to_le_bytes w64 asked.boundary ++ to_le_bytes w64 asked.link

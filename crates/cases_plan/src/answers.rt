@@ -8,12 +8,12 @@ use crate::outcome::Outcome;
 use crate::stored::Reported;
 use cases_files::agreement::agrees;
 
-// The texts of a case; the second is a sheet or a second plan.
+// The texts of a case; the second is a sheet or a second plan. Each has its own lifetime, since each is kept elsewhere.
 #[derive(Clone, Copy)]
-pub struct Texts<'a> {
-    pub network: &'a [u8],
-    pub plan: &'a [u8],
-    pub second: &'a [u8],
+pub struct Texts<'n, 'p, 's> {
+    pub network: &'n [u8],
+    pub plan: &'p [u8],
+    pub second: &'s [u8],
 }
 
 // A call, and the boundary and the link that it is asked of.
@@ -34,7 +34,7 @@ pub struct Case {
 
 // What the library answers to a question, and the ledgers and the buffer that it leaves.
 fn answer_to(
-    texts: Texts<'_>,
+    texts: Texts<'_, '_, '_>,
     ledger: &mut [u32],
     second_ledger: &mut [u32],
     buffer: &mut [u8],
@@ -69,7 +69,7 @@ fn answer_to(
 // the checksum of what the call leaves, are those of the other implementation. If not, the case is printed.
 pub fn judge(
     rt: &impl Print,
-    texts: Texts<'_>,
+    texts: Texts<'_, '_, '_>,
     case: Case,
     ledger: &mut [u32],
     second_ledger: &mut [u32],

@@ -1,4 +1,8 @@
 // Reads the cases, judges each by the proved calls and counts.
+ghost use Rattle.std.specs.Prelude.{◌≡◌, ◌≤◌, ◌++◌, length, take, drop, IfOk};
+ghost use Rattle.cases_plan.specs.Compare.{reported_to, as_stored};
+ghost use Rattle.cases_plan.specs.Stored.{filled_with, ledger_of};
+
 use crate::answers::{Case, Texts, judge};
 use crate::kept::Kept;
 use crate::stored::Filled;
@@ -43,24 +47,43 @@ struct Given<'a> {
     buffer: Filled,
 }
 
+// So many items from the start of a room, if it has them.
+fn cut<T>(room: &mut [T], count: usize) -> Result<&mut [T], Malformed>
+    ensures { IfOk result (λ items. (items.now ≡ take count room.entry.now) × (count ≤ length room.entry.now)) }
+{
+    room.get_mut(..count).ok_or(Malformed)
+}
+
+// Puts given numbers at the start of a ledger.
+fn put_start(ledger: &mut [u32], start: &[u32]) -> Result<(), Malformed>
+    ensures { IfOk result (λ _. ledger.new ≡ start.now ++ drop (length start.now) ledger.old) }
+{
+    if ledger.len() < start.len() {
+        return Err(Malformed);
+    }
+    ledger[..start.len()].copy_from_slice(start);
+    Ok(())
+}
+
 // Fills the ledgers and the buffer as the case gives them, and judges the case.
 fn judge_filled(
     rt: &impl Print,
-    texts: Texts<'_>,
+    texts: Texts<'_, '_, '_>,
     case: Case,
     given: Given<'_>,
-) -> Result<bool, Malformed> {
-    let fill = u8::try_from(given.buffer.fill).map_err(|_| Malformed)?;
+) -> Result<bool, Malformed>
+    ensures { IfOk result (λ same. same ≡ as_stored (reported_to texts.entry (ledger_of given.entry.ledger given.entry.start.now) (filled_with given.entry.second_ledger) (filled_with given.entry.buffer) case.question) case.stored) }
+{
+    let Ok(fill) = u8::try_from(given.buffer.fill) else {
+        return Err(Malformed);
+    };
     let mut ledger = [given.ledger.fill; LEDGER_ROOM];
     let mut second_ledger = [given.second_ledger.fill; LEDGER_ROOM];
     let mut buffer = [fill; BUFFER_ROOM];
-    let ledger = ledger.get_mut(..given.ledger.length).ok_or(Malformed)?;
-    let second_ledger = second_ledger
-        .get_mut(..given.second_ledger.length)
-        .ok_or(Malformed)?;
-    let buffer = buffer.get_mut(..given.buffer.length).ok_or(Malformed)?;
-    let start = ledger.get_mut(..given.start.len()).ok_or(Malformed)?;
-    start.copy_from_slice(given.start);
+    let ledger = cut(&mut ledger, given.ledger.length)?;
+    let second_ledger = cut(&mut second_ledger, given.second_ledger.length)?;
+    let buffer = cut(&mut buffer, given.buffer.length)?;
+    put_start(ledger, given.start)?;
     Ok(judge(rt, texts, case, ledger, second_ledger, buffer))
 }
 
@@ -73,10 +96,10 @@ fn run_case<R: Read>(
     before: &mut Before<'_>,
 ) -> Result<usize, Malformed> {
     let mut room = [0; PLAN_ROOM];
-    let network = before.network.read(file, stored::read_bytes)?;
-    let plan = before.plan.read(file, stored::read_bytes)?;
+    before.network.read(file, stored::read_bytes)?;
+    before.plan.read(file, stored::read_bytes)?;
     let ledger = stored::read_filled(file)?;
-    let start = before
+    before
         .start
         .read(file, |file, numbers| read_each(file, numbers, read_u32))?;
     let asked = stored::read_asked(file)?;
@@ -86,6 +109,9 @@ fn run_case<R: Read>(
     let Some(question) = asked.question() else {
         return Ok(tally::PASSED_OVER);
     };
+    let network = before.network.items()?;
+    let plan = before.plan.items()?;
+    let start = before.start.items()?;
     let texts = Texts {
         network,
         plan,
@@ -102,11 +128,8 @@ fn run_case<R: Read>(
         second_ledger,
         buffer: asked.buffer,
     };
-    Ok(if judge_filled(rt, texts, case, given)? {
-        tally::place_of(asked.call, stored.outcome)
-    } else {
-        tally::DIFFERENT
-    })
+    let same = judge_filled(rt, texts, case, given)?;
+    Ok(tally::place_of(asked.call, stored.outcome, same))
 }
 
 // Judges and counts the cases of a file, and prints how many it has. No contract: nothing can say what the file gives, or what is printed.

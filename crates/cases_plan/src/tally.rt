@@ -1,4 +1,7 @@
 // How many cases agreed, and what is printed.
+ghost use Rattle.std.specs.Prelude.{◌≡◌};
+ghost use Rattle.cases_plan.specs.Tally.{place_of};
+
 use crate::call::{CALLS, Call};
 use crate::outcome::{Kind, Outcome};
 use std::fmt::Display;
@@ -14,11 +17,14 @@ pub const PASSED_OVER: usize = DIFFERENT + 1;
 
 pub const COUNTERS: usize = DIFFERENT + 2;
 
-// Which counter a call's outcome has. A refusal number above 35 has none, and counts as different.
-pub fn place_of(call: Call, outcome: Outcome) -> usize {
+// Which counter a case has: that of its call and outcome if it agrees. A refusal number above 35 has none, and counts as
+// different.
+pub fn place_of(call: Call, outcome: Outcome, same: bool) -> usize
+    ensures { result ≡ place_of call outcome same }
+{
     let is_refused = outcome.kind == Kind::Refused as u32;
     let number = if is_refused { outcome.first } else { 0 };
-    if number < ANSWERS as u64 {
+    if same && number < ANSWERS as u64 {
         call as usize * ANSWERS + number as usize
     } else {
         DIFFERENT

@@ -1,11 +1,11 @@
 // Reads the cases, splits each network and plan by the proved call and compares.
 ghost use Rattle.std.specs.Prelude.{◌≡◌};
 ghost use Rattle.split.specs.Splitting.{texts, buffers};
-ghost use Rattle.cases_split.specs.Compare.{as_stored, answer_to, left_by};
+ghost use Rattle.cases_split.specs.Compare.{as_stored, answer_to, left_by, place_of};
 
 use crate::told;
 use crate::told::{Buffers, Stored, Texts};
-use base_search::{Reason, Refusal};
+use base_search::Refusal;
 use cases_files::agreement::agrees;
 use cases_files::reading::{Malformed, read_array, read_text, read_u32};
 use cases_files::refusals::{Columns, read_refusal};
@@ -29,16 +29,21 @@ struct Case<'a> {
     told: Buffers<'a>,
 }
 
-// Which counter a refusal has, or a split that was written. Not `tally::place_of`: the network's own refusals share one
-// counter.
-fn place_of(refusal: Option<Refusal>) -> usize {
-    match refusal.map(|refusal| refusal.number) {
-        None => 0,
-        Some(number) if number == Reason::PlanForm.number() => 2,
-        Some(number) if number == Reason::SplitNetwork.number() => 3,
-        Some(number) if number == Reason::SplitSignals.number() => 4,
-        Some(number) if number == Reason::SplitRoom.number() => 5,
-        Some(_) => 1,
+// Which counter a case has: that of its refusal, or of a split that was written, if it agrees. Not `tally::place_of`:
+// the network's own refusals share one counter.
+fn place_of(refusal: Option<Refusal>, same: bool) -> usize
+    ensures { result ≡ place_of refusal same }
+{
+    let Some(refusal) = refusal else {
+        return if same { 0 } else { DIFFERENT };
+    };
+    match refusal.number {
+        _ if !same => DIFFERENT,
+        9 => 2,
+        40 => 3,
+        41 => 4,
+        42 => 5,
+        _ => 1,
     }
 }
 
@@ -146,5 +151,5 @@ pub fn run_case(rt: &impl Print, file: &mut impl Read, number: u32) -> Result<us
         },
     };
     let same = judge_filled(rt, case, lengths, rest)?;
-    Ok(if same { place_of(refusal) } else { DIFFERENT })
+    Ok(place_of(refusal, same))
 }

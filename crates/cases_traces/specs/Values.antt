@@ -1,6 +1,6 @@
 -- When values are the same: by their bits, where a NaN is one value and zeros of either sign are two.
 use Rattle.std.specs.Prelude.{ℕ, ◌≡◌, Option, Bool, ◌&&◌, ◌==◌, List, length, Float}
-use Rattle.std.specs.List.{list_all, zip}
+use Rattle.std.specs.List.{list_all, zip, FoldsTo}
 use Rattle.std.specs.Float.{binary64}
 use Rattle.std.specs.Float.Ieee.{of_bits, to_bits}
 use Rattle.std.specs.Int.{w64, to_le_bytes}
@@ -17,3 +17,7 @@ pub record ValueRead (before after : Option (List ℕ)) (value : Float) : Type 0
   pub bits : ℕ
   pub consumed : Consumes before after (to_le_bytes w64 bits)
   pub value-is : value ≡ of_bits binary64 bits
+
+-- so were these values, one after the other
+abbrev pub ValuesRead : {R : Type 0} → (R → Option (List ℕ)) → R → List Float → R → Type 0
+ValuesRead remaining before values after = FoldsTo (λ file value rest. ValueRead (remaining file) (remaining rest) value) before values after

@@ -4,7 +4,7 @@ ghost use Rattle.std.specs.Prelude.{◌≡◌, length, IfOk};
 ghost use Rattle.std.specs.Float.{binary64};
 ghost use Rattle.std.specs.List.{list_all, zip};
 ghost use Rattle.std.specs.Float.Ieee.{of_bits, to_bits};
-ghost use Rattle.cases_traces.specs.Values.{same_value, same_values, ValueRead};
+ghost use Rattle.cases_traces.specs.Values.{same_value, same_values, ValueRead, ValuesRead};
 
 use cases_files::reading::{Malformed, read_each, read_u64};
 use std::io::Read;
@@ -67,12 +67,13 @@ pub fn read_value<R: Read>(file: &mut R) -> Result<f64, Malformed>
 }
 
 // Reads `count` values to the start of a room that must be large enough.
-pub fn read_values<'a>(
-    file: &mut impl Read,
+pub fn read_values<'a, R: Read>(
+    file: &mut R,
     room: &'a mut [f64],
     count: u32,
 ) -> Result<&'a mut [f64], Malformed>
-    ensures { IfOk result (λ values. length values.now ≡ count) }
+    ensures counted { IfOk result (λ values. length values.now ≡ count) }
+    ensures read { IfOk result (λ values. ValuesRead R.remaining file.old values.now file.new) }
 {
     let values = room.get_mut(..count as usize).ok_or(Malformed)?;
     read_each(file, values, read_value)?;
