@@ -28,12 +28,3 @@ impl From<io::Error> for Problem {
         }
     }
 }
-
-impl From<csv::Error> for Problem {
-    fn from(error: csv::Error) -> Problem {
-        match error.into_kind() {
-            csv::ErrorKind::Io(error) => error.into(),
-            other => Problem(format!("{other:?}")),
-        }
-    }
-}

@@ -1,92 +1,106 @@
 //! What a plan adds up to for each link, as CSV and JSON have it: volumes in thousandths of a vehicle, times in seconds.
 
-use serde::Serialize;
+use serde::{Serialize, Serializer};
+use std::fmt;
 use workbench_core::delays::Spread;
 use workbench_core::judge::Run;
-use workbench_core::names::Names;
-use workbench_core::summary::{of_link, OfLink, Spent};
+use workbench_core::summary::{of_link, OfLink, OnGreen, Spent};
 
-/// A link. Delays are those of the vehicles that came to its end, in its queue; waits those of the vehicles outside. There is
-/// none where there is no vehicle, and no green without a signal.
-#[derive(Serialize)]
-pub struct LinkRow {
-    link: usize,
-    #[serde(skip_serializing_if = "Option::is_none")]
-    name: Option<String>,
-    came: u64,
-    mean_delay: Option<f64>,
-    median_delay: Option<f64>,
-    third_quartile_delay: Option<f64>,
-    greatest_delay: Option<f64>,
-    greatest_queue: u32,
-    greatest_queue_second: u32,
-    seconds_at_capacity: u32,
-    offered: u64,
-    mean_wait: Option<f64>,
-    median_wait: Option<f64>,
-    third_quartile_wait: Option<f64>,
-    greatest_wait: Option<f64>,
-    most_waiting: u64,
-    most_waiting_second: u32,
-    waiting_at_the_end: u64,
-    arrived: Option<u64>,
-    arrived_on_green: Option<u64>,
-    seconds_open: Option<u32>,
+/// The numbers of a link by their names, that of the link first.
+pub struct LinkRow(Vec<(&'static str, Number)>);
+
+#[derive(Clone, Copy, Serialize)]
+#[serde(untagged)]
+enum Number {
+    Whole(u64),
+    Seconds(f64),
+    /// Where there is no vehicle, or no signal.
+    Nothing,
 }
 
 /// The links of a plan, as far as it passed.
 pub fn link_rows(run: &Run) -> Vec<LinkRow> {
-    (0..run.network.links.len())
-        .map(|link| LinkRow::new(link + 1, &of_link(run, link)))
-        .collect()
+    let links = 1..=run.network.links.len();
+    links.map(|link| LinkRow::new(link, &of_link(run, link - 1))).collect()
 }
 
 impl LinkRow {
+    /// Delays are those of the vehicles that came to the link's end, in its queue; waits those of the vehicles outside.
     fn new(link: usize, told: &OfLink) -> LinkRow {
         let outside = &told.outside;
-        let on_green = told.on_green.as_ref();
-        LinkRow {
-            link,
-            name: None,
-            came: told.delay.volume,
-            mean_delay: mean(told.delay),
-            median_delay: of(told.spread, |spread| spread.median),
-            third_quartile_delay: of(told.spread, |spread| spread.third_quartile),
-            greatest_delay: of(told.spread, |spread| spread.greatest),
-            greatest_queue: told.greatest_queue,
-            greatest_queue_second: told.greatest_at,
-            seconds_at_capacity: told.seconds_at_capacity,
-            offered: outside.delay.volume,
-            mean_wait: mean(outside.delay),
-            median_wait: of(outside.spread, |spread| spread.median),
-            third_quartile_wait: of(outside.spread, |spread| spread.third_quartile),
-            greatest_wait: of(outside.spread, |spread| spread.greatest),
-            most_waiting: outside.most,
-            most_waiting_second: outside.most_at,
-            waiting_at_the_end: outside.at_the_end,
-            arrived: on_green.map(|told| told.arrived),
-            arrived_on_green: on_green.map(|told| told.on_green),
-            seconds_open: on_green.map(|told| told.seconds_open),
-        }
+        let green = |number: fn(&OnGreen) -> u64| {
+            told.on_green
+                .as_ref()
+                .map_or(Number::Nothing, |told| Number::Whole(number(told)))
+        };
+        LinkRow(vec![
+            ("link", Number::Whole(link as u64)),
+            ("came", Number::Whole(told.delay.volume)),
+            ("mean_delay", mean(told.delay)),
+            ("median_delay", of(told.spread, |spread| spread.median)),
+            ("third_quartile_delay", of(told.spread, |spread| spread.third_quartile)),
+            ("greatest_delay", of(told.spread, |spread| spread.greatest)),
+            ("greatest_queue", Number::Whole(told.greatest_queue.into())),
+            ("greatest_queue_second", Number::Whole(told.greatest_at.into())),
+            ("seconds_at_capacity", Number::Whole(told.seconds_at_capacity.into())),
+            ("offered", Number::Whole(outside.delay.volume)),
+            ("mean_wait", mean(outside.delay)),
+            ("median_wait", of(outside.spread, |spread| spread.median)),
+            (
+                "third_quartile_wait",
+                of(outside.spread, |spread| spread.third_quartile),
+            ),
+            ("greatest_wait", of(outside.spread, |spread| spread.greatest)),
+            ("most_waiting", Number::Whole(outside.most)),
+            ("most_waiting_second", Number::Whole(outside.most_at.into())),
+            ("waiting_at_the_end", Number::Whole(outside.at_the_end)),
+            ("arrived", green(|told| told.arrived)),
+            ("arrived_on_green", green(|told| told.on_green)),
+            ("seconds_open", green(|told| told.seconds_open.into())),
+        ])
     }
 
-    /// With the name of a file of names, of which a table has a column.
-    pub fn named(mut self, names: &Names) -> LinkRow {
-        self.name = Some(names.of_link(self.link).unwrap_or_default().to_string());
-        self
+    pub fn heads(&self) -> impl Iterator<Item = String> + '_ {
+        self.0.iter().map(|(name, _)| (*name).to_string())
+    }
+
+    pub fn numbers(&self) -> impl Iterator<Item = String> + '_ {
+        self.0.iter().map(|(_, number)| number.to_string())
+    }
+}
+
+impl Serialize for LinkRow {
+    fn serialize<S: Serializer>(&self, to: S) -> Result<S::Ok, S::Error> {
+        to.collect_map(self.0.iter().copied())
+    }
+}
+
+/// A field of CSV, empty where there is no number.
+impl fmt::Display for Number {
+    fn fmt(&self, to: &mut fmt::Formatter<'_>) -> fmt::Result {
+        match self {
+            Number::Whole(number) => write!(to, "{number}"),
+            Number::Seconds(seconds) => write!(to, "{seconds:?}"),
+            Number::Nothing => Ok(()),
+        }
     }
 }
 
 #[allow(clippy::cast_precision_loss)]
-fn mean(spent: Spent) -> Option<f64> {
-    (spent.volume > 0).then(|| thousandths(spent.doubled_time as f64 / 2.0 / spent.volume as f64))
+fn mean(spent: Spent) -> Number {
+    match spent.volume {
+        0 => Number::Nothing,
+        volume => seconds(spent.doubled_time as f64 / 2.0 / volume as f64),
+    }
 }
 
-fn of(spread: Option<Spread>, number: fn(&Spread) -> f64) -> Option<f64> {
-    spread.as_ref().map(|spread| thousandths(number(spread)))
+fn of(spread: Option<Spread>, number: fn(&Spread) -> f64) -> Number {
+    spread
+        .as_ref()
+        .map_or(Number::Nothing, |spread| seconds(number(spread)))
 }
 
-/// Seconds with at most three decimals.
-fn thousandths(seconds: f64) -> f64 {
-    (seconds * 1000.0).round() / 1000.0
+/// With at most three decimals.
+fn seconds(seconds: f64) -> Number {
+    Number::Seconds((seconds * 1000.0).round() / 1000.0)
 }

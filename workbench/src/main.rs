@@ -5,6 +5,7 @@ mod command;
 mod commands;
 mod files;
 mod link_rows;
+mod table;
 
 use clap::{CommandFactory, Parser};
 use command::{Ended, Outcome, Problem};

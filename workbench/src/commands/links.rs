@@ -3,6 +3,7 @@
 use crate::command::{Ended, Outcome};
 use crate::files::{names_beside, Named};
 use crate::link_rows::link_rows;
+use crate::table::Table;
 use clap::Args;
 use std::io::Write;
 use workbench_core::judge::Run;
@@ -33,10 +34,17 @@ pub fn run(arguments: &Arguments, out: &mut dyn Write) -> Outcome {
         return Ok(Ended::Refused);
     }
     let names = names_beside(&given.network, &given.texts.network);
-    let mut table = csv::Writer::from_writer(out);
-    for row in link_rows(&run) {
-        table.serialize(row.named(&names))?;
+    let mut table = Table::new(out);
+    for (number, row) in (1..).zip(link_rows(&run)) {
+        // The name stands behind the number.
+        let with = |name: &str, mut fields: Vec<String>| {
+            fields.insert(1, name.to_string());
+            fields
+        };
+        if number == 1 {
+            table.line(with("name", row.heads().collect()))?;
+        }
+        table.line(with(names.of_link(number).unwrap_or_default(), row.numbers().collect()))?;
     }
-    table.flush()?;
     Ok(Ended::Done)
 }

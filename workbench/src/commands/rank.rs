@@ -2,6 +2,7 @@
 
 use crate::command::{Ended, Outcome, Problem};
 use crate::files::{plans_in, read, read_network, Found, NETWORK};
+use crate::table::Table;
 use clap::{Args, ValueEnum};
 use plancheck::{check_network, Refusal, Totals};
 use std::io::{self, Write};
@@ -238,14 +239,14 @@ fn in_short(refusal: &Refusal) -> String {
 }
 
 /// Volumes in thousandths of a vehicle, the doubled times in thousandths of a vehicle times seconds, as the library gives them.
-fn write_csv(out: &mut dyn Write, ranked: &[Ranked], by: By) -> Result<(), Problem> {
-    let mut table = csv::Writer::from_writer(out);
+fn write_csv(out: &mut dyn Write, ranked: &[Ranked], by: By) -> io::Result<()> {
+    let mut table = Table::new(out);
     let numbers = ["doubled_time", "admitted", "let_out", "inside"];
     let numbers: Vec<&str> = numbers
         .into_iter()
         .chain(by.column().map(|[_, _, name]| name))
         .collect();
-    table.write_record(["plan", "refusal", "line", "item"].iter().chain(&numbers))?;
+    table.line(["plan", "refusal", "line", "item"].iter().chain(&numbers))?;
     for plan in ranked {
         let mut fields = vec![plan.plan.display().to_string()];
         match &plan.answer {
@@ -259,7 +260,7 @@ fn write_csv(out: &mut dyn Write, ranked: &[Ranked], by: By) -> Result<(), Probl
                 fields.extend(numbers.iter().map(|_| String::new()));
             }
         }
-        table.write_record(fields)?;
+        table.line(fields)?;
     }
-    Ok(table.flush()?)
+    Ok(())
 }

@@ -2,8 +2,8 @@
 
 use crate::command::{Ended, Outcome};
 use crate::files::Named;
+use crate::table::Table;
 use clap::Args;
-use serde::Serialize;
 use std::io::Write;
 use workbench_core::judge::states_of;
 use workbench_core::network::Network;
@@ -16,16 +16,6 @@ use workbench_core::words;
 pub struct Arguments {
     #[command(flatten)]
     named: Named,
-}
-
-/// A line of the table.
-#[derive(Serialize)]
-struct State {
-    boundary: usize,
-    second: u32,
-    link: usize,
-    queued: u32,
-    in_transit: u32,
 }
 
 pub fn run(arguments: &Arguments, out: &mut dyn Write) -> Outcome {
@@ -42,18 +32,13 @@ pub fn run(arguments: &Arguments, out: &mut dyn Write) -> Outcome {
             return Ok(Ended::Refused);
         }
     };
-    let mut table = csv::Writer::from_writer(out);
-    for ((boundary, row), second) in states.iter().enumerate().zip(network.times()) {
-        for (link, state) in row.iter().enumerate() {
-            table.serialize(State {
-                boundary,
-                second,
-                link: link + 1,
-                queued: state.queued,
-                in_transit: state.in_transit,
-            })?;
+    let mut table = Table::new(out);
+    table.line(["boundary", "second", "link", "queued", "in_transit"])?;
+    for ((boundary, row), second) in (0..).zip(&states).zip(network.times()) {
+        for (link, state) in (1..).zip(row) {
+            let numbers = [boundary, second, link, state.queued, state.in_transit];
+            table.line(numbers.map(|number| number.to_string()))?;
         }
     }
-    table.flush()?;
     Ok(Ended::Done)
 }
