@@ -1,5 +1,5 @@
 -- Checks in order, and the first of them that is broken.
-use Rattle.std.specs.Prelude.{◌≡◌, Result, Ok, Err, Bool, true, false, ◌⊎◌, List, ℕ, zero, suc, ◌+◌, ◌<◌, length, get_or}
+use Rattle.std.specs.Prelude.{◌≡◌, Result, Ok, Err, Bool, true, false, ◌⊎◌, List, ℕ, zero, suc, ◌+◌, ◌<◌, length, slice_index_or}
 use Rattle.base_search.specs.declared.Refusal.{Refusal}
 
 -- The verdict on checks: all pass, or the refusal of the first that does not.
@@ -59,7 +59,7 @@ abbrev pub no_rule : Rule
 no_rule = record { number = 0; items = 0; holds = λ i. true }
 
 abbrev pub rule_at : List Rule → ℕ → Rule
-rule_at rules k = get_or rules k no_rule
+rule_at rules k = slice_index_or rules k no_rule
 
 -- the rules of a table in order, each over rising items, reported at one line
 unfoldable pub table : ℕ → List Rule → Checks

@@ -2,7 +2,7 @@
 // specs/, its laws are in proofs/: by them the calls and the labelled search of step_check are proved.
 #![tactic(auto)]
 
-ghost use Rattle.std.specs.Prelude.{◌≡◌, ◌<◌};
+ghost use Rattle.std.specs.Prelude.{◌≡◌, ◌<◌, ◌^◌};
 ghost use Rattle.base_search.specs.Checks.{refusal, checked};
 ghost use Rattle.base_search.specs.Reasons.{reason_number};
 
@@ -79,7 +79,7 @@ impl Reason {
 
     // The refusal for this reason, at a line and an item.
     pub fn refusal(self, line: usize, item: usize) -> Refusal
-        requires { (line < 4294967296) × (item < 4294967296) }
+        requires { (line < 2 ^ 32) × (item < 2 ^ 32) }
         ensures { result ≡ refusal (reason_number self) line item }
     {
         Refusal::new(self.number(), line, item)
@@ -99,7 +99,7 @@ pub struct Refusal {
 
 impl Refusal {
     pub fn new(number: u32, line: usize, item: usize) -> Self
-        requires { (line < 4294967296) × (item < 4294967296) }
+        requires { (line < 2 ^ 32) × (item < 2 ^ 32) }
         ensures { result ≡ refusal number line item }
     {
         Self {
@@ -112,7 +112,7 @@ impl Refusal {
 
 // Ok if a check holds; otherwise the refusal for this reason at this line and item.
 pub fn checked(holds: bool, reason: Reason, line: usize, item: usize) -> Result<(), Refusal>
-    requires { (line < 4294967296) × (item < 4294967296) }
+    requires { (line < 2 ^ 32) × (item < 2 ^ 32) }
     ensures { result ≡ checked holds (reason_number reason) line item }
 {
     if holds {

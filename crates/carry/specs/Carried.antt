@@ -1,5 +1,5 @@
 -- What the functions that write a carried network require and promise.
-use Rattle.std.specs.Prelude.{ℕ, suc, ◌*◌, ◌≤◌, ◌<◌, ◌≡◌, List, length, get_or, Result}
+use Rattle.std.specs.Prelude.{ℕ, suc, ◌*◌, ◌≤◌, ◌<◌, ◌≡◌, List, length, slice_index, Result}
 use Rattle.text_reader.specs.Lines.{Line, lines}
 use Rattle.model.specs.declared.Signal.{Signal}
 use Rattle.model.specs.Network.{max_links, max_signals, link_count, signal_count, step_count}
@@ -17,7 +17,8 @@ use Rattle.carry.specs.declared.Standing.{Standing}
 -- the signals, those who wait, and the ledger's rows are those at the boundary of a plan
 pub record StandsAt (network plan : List Line) (at : Standing) : Type 0 where
   pub signals-at : (r : ℕ) → r < signal_count network → fields.signal_at at.signals.now r ≡ signal_at network plan at.boundary r
-  pub waiting-at : (i : ℕ) → i < link_count network → get_or at.waiting.now i 0 ≡ waits network plan at.boundary i
+  pub waiting-at : (i : ℕ) → i < link_count network
+      → slice_index at.waiting.now i ≡ waits network plan at.boundary i
   pub rows : at.ledger.now ≡ written network plan at.ledger.now (suc at.boundary)
 
 -- the tables of a network that has passed, and how it stands at a boundary of some plan

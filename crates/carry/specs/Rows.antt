@@ -1,5 +1,5 @@
 -- The lines of the carried network by the program's tables, and what the functions that put them require and promise.
-use Rattle.std.specs.Prelude.{ℕ, suc, ◌+◌, ◌*◌, ◌-◌, ◌≤◌, ◌<◌, ◌≡◌, true, List, [], ◌∷◌, length, get_or}
+use Rattle.std.specs.Prelude.{ℕ, suc, ◌+◌, ◌*◌, ◌-◌, ◌≤◌, ◌<◌, ◌≡◌, true, List, [], ◌∷◌, length, slice_index}
 use Rattle.text_reader.specs.Lines.{lines}
 use Rattle.text_reader.specs.Reading.{Starts}
 use Rattle.text_writer.specs.Records.{record_texts}
@@ -25,7 +25,8 @@ count_row counts b trams =
 
 -- the `Q` line of link i, with who waits at its entry
 unfoldable pub carried_link_row : List Link → List ℕ → ℕ → List ℕ
-carried_link_row links waiting i = fields.link_row (record (link_at links i) { waiting = get_or waiting i 0 })
+carried_link_row links waiting i =
+    fields.link_row (record (link_at links i) { waiting = slice_index waiting i })
 
 -- what entered link i in step n, and left it, by the rows of a ledger of so many links
 unfoldable pub volumes_in : List ℕ → ℕ → ℕ → ℕ → List ℕ

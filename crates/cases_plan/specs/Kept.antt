@@ -1,5 +1,5 @@
 -- What a case gives, or takes over from the case before.
-use Rattle.std.specs.Prelude.{ℕ, ◌≡◌, ◌⊎◌, List, length, take, Option, Some, None, Result, Ok}
+use Rattle.std.specs.Prelude.{ℕ, ◌≡◌, ◌⊎◌, ◌^◌, ◌-◌, List, length, take, Option, Some, None, Result, Ok}
 use Rattle.std.specs.Borrow.{MutBor}
 use Rattle.std.specs.Int.{w32, to_le_bytes}
 use Rattle.std.specs.Io.KnownBytes.{Consumes}
@@ -25,5 +25,5 @@ module _ {R T : Type 0} (bytes : R → Option (List ℕ)) (returns : MutBor R �
   -- the mark of what the case before had was read, and that is kept; or items are given, and these are kept
   abbrev pub GoesOn : Option (List T) → R → R → Option (List T) → Type 0
   GoesOn had before after has =
-      (Consumes (bytes before) (bytes after) (to_le_bytes w32 4_294_967_295) × (has ≡ had))
+      (Consumes (bytes before) (bytes after) (to_le_bytes w32 (2 ^ 32 - 1)) × (has ≡ had))
       ⊎ (items : List T) × Given before after items × (has ≡ Some items)

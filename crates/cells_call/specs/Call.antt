@@ -1,5 +1,5 @@
 -- The call `run_cells` (T-12): its answer, the final volumes, and what it keeps.
-use Rattle.std.specs.Prelude.{ℕ, ◌+◌, ◌-◌, ◌≤◌, ◌<◌, ◌≡◌, List, [], ◌∷◌, ◌++◌, length, get_or, replicate, sum, Result, Ok, Err}
+use Rattle.std.specs.Prelude.{ℕ, ◌+◌, ◌-◌, ◌≤◌, ◌<◌, ◌≡◌, List, [], ◌∷◌, ◌++◌, length, slice_index, replicate, sum, Result, Ok, Err}
 use Rattle.base_search.specs.declared.Refusal.{Refusal}
 use Rattle.base_search.specs.Checks.{Verdict, verdict}
 use Rattle.base_search.specs.Numbers.{CanArise}
@@ -55,7 +55,8 @@ volumes_in (Err r) = zeros 64
 pub record Kept (text : List Line) (run : CellsRun) : Type 0 where
   pub always : Keeps (chain text) (starts text)
   -- no cell has passed its holding limit
-  pub held : (i : ℕ) → i < run.cells → get_or run.volumes i 0 ≤ (cell_at (chain text) i).holding_limit
+  pub held :
+      (i : ℕ) → i < run.cells → slice_index run.volumes i ≤ (cell_at (chain text) i).holding_limit
   -- the volume in all cells is start plus in minus out
   pub balanced : sum run.volumes + run.flow_out ≡ sum (starts text) + run.flow_in
 

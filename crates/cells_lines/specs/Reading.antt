@@ -1,5 +1,5 @@
 -- What the functions that read a corridor's text promise.
-use Rattle.std.specs.Prelude.{ℕ, ◌+◌, ◌≤◌, ◌<◌, ◌≡◌, true, List, length, get_or, take, drop, Some, Ok}
+use Rattle.std.specs.Prelude.{ℕ, ◌+◌, ◌≤◌, ◌<◌, ◌≡◌, true, List, length, slice_index_or, take, drop, Some, Ok}
 use Rattle.base_search.specs.Checks.{each, verdict}
 use Rattle.text_reader.specs.Lines.{lines, no_line, number}
 use Rattle.text_reader.specs.Reading.{line_at, record_at, Starts}
@@ -29,8 +29,9 @@ pub record CellsRead (text : List ℕ) (count next : ℕ) (cells₀ : List Cell)
   pub counted : count ≡ cell_count (lines text)
   pub few : count ≤ 64
   pub begins : Starts text next count
-  pub cells-are : cells ≡ filled (λ i. cell_of (get_or (lines text) i no_line)) cells₀ count
-  pub volumes-are : volumes ≡ filled (λ i. start_of (get_or (lines text) i no_line)) volumes₀ count
+  pub cells-are : cells ≡ filled (λ i. cell_of (slice_index_or (lines text) i no_line)) cells₀ count
+  pub volumes-are :
+      volumes ≡ filled (λ i. start_of (slice_index_or (lines text) i no_line)) volumes₀ count
 
 -- ---- the `D` lines
 pub record DemandsAsked (text : List ℕ) (at cells : ℕ) (table : List ℕ) : Type 0 where

@@ -1,7 +1,7 @@
 // The text of a corridor in cells (T-12): its `C`, `X` and `D` lines, read into tables; refusals 36 and 37.
 #![tactic(auto)]
 
-ghost use Rattle.std.specs.Prelude.{◌≡◌, ◌<◌, ◌==◌, false, length, IfOk, IfErr};
+ghost use Rattle.std.specs.Prelude.{◌≡◌, ◌<◌, ◌==◌, ◌^◌, false, length, IfOk, IfErr};
 ghost use Rattle.base_search.specs.Checks.{refusal, each, verdict};
 ghost use Rattle.text_reader.specs.Lines.{lines};
 ghost use Rattle.text_reader.specs.Reading.{line_at};
@@ -92,7 +92,7 @@ fn read_cells(
 // Reads a line of this letter and one volume: the volume, and the place of the next line; or refusal 36 at this line of
 // the text.
 fn volume_at(text: &[u8], at: usize, letter: u8, line: usize) -> Result<(u32, usize), Refusal>
-    requires { line < 4294967296 }
+    requires { line < 2 ^ 32 }
     ensures ok { IfOk result (λ (volume, next). VolumeRead letter text.now at volume next) }
     ensures err { IfErr result (λ r. (volume_form letter (line_at text.now at) ≡ false) × (r ≡ refusal 36 line 0)) }
 {

@@ -1,5 +1,5 @@
 -- The steps of a chain of cells (T-12). Cells and borders are counted from 0: border i is the way into cell i, the last border is the way out.
-use Rattle.std.specs.Prelude.{ℕ, zero, suc, ◌+◌, ◌-◌, ◌*◌, ◌/◌, ◌≤◌, ◌<◌, min, ◌≡◌, cond, List, [], ◌∷◌, ltb, length, get_or}
+use Rattle.std.specs.Prelude.{ℕ, zero, suc, ◌+◌, ◌-◌, ◌*◌, ◌/◌, ◌≤◌, ◌<◌, min, ◌≡◌, if◌then◌else◌, List, [], ◌∷◌, nat_lt, length, slice_index, slice_index_or}
 use Rattle.base_laws.specs.Indexed.{list}
 use Rattle.cells_steps.specs.declared.Cell.{Cell}
 
@@ -16,7 +16,7 @@ abbrev pub no_cell : Cell
 no_cell = record { flow_limit = 0; holding_limit = 0; wave_ratio = 0 }
 
 abbrev pub cell_at : Chain → ℕ → Cell
-cell_at chain i = get_or chain.cells i no_cell
+cell_at chain i = slice_index_or chain.cells i no_cell
 
 -- the flow into a cell of this volume: the least of what waits before it, its flow limit, and wave ratio × (holding limit − volume), rounded down
 unfoldable pub inflow : Cell → ℕ → ℕ → ℕ
@@ -27,17 +27,19 @@ module _ (chain : Chain) where
   -- the flow out of cell i, which holds this volume: into the next cell, or, out of the last, the least of its volume and the exit limit
   unfoldable pub outflow : List ℕ → ℕ → ℕ → ℕ
   outflow volumes i volume =
-      cond (ltb (suc i) (length volumes)) (inflow (cell_at chain (suc i)) volume (get_or volumes (suc i) 0)) (min volume chain.exit_limit)
+      if nat_lt (suc i) (length volumes)
+      then inflow (cell_at chain (suc i)) volume (slice_index volumes (suc i))
+      else min volume chain.exit_limit
 
   module _ (demand : ℕ) (volumes : List ℕ) where
     -- the flow over border i: of the demand into the first cell, or out of the cell before
     unfoldable pub flow : ℕ → ℕ
-    flow zero = inflow (cell_at chain 0) demand (get_or volumes 0 0)
-    flow (suc i) = outflow volumes i (get_or volumes i 0)
+    flow zero = inflow (cell_at chain 0) demand (slice_index volumes 0)
+    flow (suc i) = outflow volumes i (slice_index volumes i)
 
     -- the volume of cell i after the step
     unfoldable pub volume_after : ℕ → ℕ
-    volume_after i = get_or volumes i 0 - flow (suc i) + flow i
+    volume_after i = slice_index volumes i - flow (suc i) + flow i
 
     unfoldable pub after : List ℕ
     after = list (length volumes) volume_after
@@ -60,6 +62,6 @@ pub record Ready (chain : Chain) (volumes : List ℕ) : Type 0 where
   pub some : 0 < length volumes
   pub few : length volumes ≤ 64
   pub same_length : length chain.cells ≡ length volumes
-  pub held : (i : ℕ) → i < length volumes → get_or volumes i 0 ≤ (cell_at chain i).holding_limit
+  pub held : (i : ℕ) → i < length volumes → slice_index volumes i ≤ (cell_at chain i).holding_limit
   pub small : (i : ℕ) → i < length volumes → (cell_at chain i).holding_limit ≤ 2_000_000_000
   pub slow : (i : ℕ) → i < length volumes → (cell_at chain i).wave_ratio ≤ 1000

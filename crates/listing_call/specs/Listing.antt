@@ -1,6 +1,6 @@
 -- Plans straight from the solver (T-01): when a listing is refused, the numbers that it gives, and the plan text that is written of them. The listing is the list of its
 -- lines (crate `listing_lines`). Steps, signals, links and movements are counted from 0 here, from 1 in a variable, phases from 1.
-use Rattle.std.specs.Prelude.{ℕ, zero, suc, ◌*◌, ◌-◌, ◌/◌, ◌%◌, ◌^◌, Bool, true, false, cond, not, List, [], ◌∷◌, ◌++◌, leb, eqb, length, get_or, Some, None, Result}
+use Rattle.std.specs.Prelude.{ℕ, zero, suc, ◌*◌, ◌-◌, ◌/◌, ◌%◌, ◌^◌, Bool, true, false, if◌then◌else◌, not, List, [], ◌∷◌, ◌++◌, nat_le, ◌==◌, length, slice_index_or, Some, None, Result}
 use Rattle.base_search.specs.Checks.{Checks, check, each, ◌then◌, verdict}
 use Rattle.text_reader.specs.Field.{largest}
 use Rattle.text_reader.specs.Lines.{Line}
@@ -23,10 +23,10 @@ listing_numbers = network_numbers ++ (22 ∷ 23 ∷ 24 ∷ [])
 
 -- ---- one variable
 unfoldable pub same : Variable → Variable → Bool
-same (Shown r k n) (Shown r' k' n') = eqb r r' and eqb k k' and eqb n n'
-same (Admitted i n) (Admitted i' n') = eqb i i' and eqb n n'
-same (LetOut i n) (LetOut i' n') = eqb i i' and eqb n n'
-same (Moved j n) (Moved j' n') = eqb j j' and eqb n n'
+same (Shown r k n) (Shown r' k' n') = r == r' and k == k' and n == n'
+same (Admitted i n) (Admitted i' n') = i == i' and n == n'
+same (LetOut i n) (LetOut i' n') = i == i' and n == n'
+same (Moved j n) (Moved j' n') = j == j' and n == n'
 same v w = false
 
 unfoldable pub step_of : Variable → ℕ
@@ -49,7 +49,7 @@ one = 1_000_000
 
 -- a phase is shown or not: its value is 0 or 1
 unfoldable pub valid_value : Variable → ℕ → Bool
-valid_value (Shown r k n) millionths = eqb millionths 0 or eqb millionths one
+valid_value (Shown r k n) millionths = millionths == 0 or millionths == one
 valid_value (Admitted i n) millionths = true
 valid_value (LetOut i n) millionths = true
 valid_value (Moved j n) millionths = true
@@ -59,7 +59,8 @@ unfoldable pub volume : ℕ → ℕ → ℕ
 volume millionths seconds = millionths * seconds / 1000
 
 unfoldable pub is_volume : ℕ → ℕ → Bool
-is_volume millionths seconds = eqb (millionths * seconds % 1000) 0 and leb (volume millionths seconds) largest
+is_volume millionths seconds =
+    millionths * seconds % 1000 == 0 and nat_le (volume millionths seconds) largest
 
 unfoldable pub fits : Variable → ℕ → ℕ → Bool
 fits (Shown r k n) millionths seconds = true
@@ -78,7 +79,7 @@ millionths_of None = 0
 
 module _ (listing : List Entry) where
   abbrev pub listing_entry : ℕ → Entry
-  listing_entry i = get_or listing i None
+  listing_entry i = slice_index_or listing i None
 
   -- one of the first i lines sets the variable
   unfoldable pub set_before : ℕ → Variable → Bool
@@ -88,7 +89,8 @@ module _ (listing : List Entry) where
   -- what the first i lines set it to, in millionths; 0 where none does
   unfoldable pub value_before : ℕ → Variable → ℕ
   value_before zero v = 0
-  value_before (suc i) v = cond (sets v (listing_entry i)) (millionths_of (listing_entry i)) (value_before i v)
+  value_before (suc i) v =
+      if sets v (listing_entry i) then millionths_of (listing_entry i) else value_before i v
 
   unfoldable pub value : Variable → ℕ
   value v = value_before (length listing) v
@@ -116,7 +118,7 @@ module _ (network : List Line) (listing : List Entry) where
   -- ---- the numbers of the plan
   -- the mask of signal r in step n: bit k is set where phase k + 1, one of 8 at most, is 1
   unfoldable pub mask_of : ℕ → ℕ → ℕ
-  mask_of n r = sum 8 (λ k. only (eqb (value listing (Shown (suc r) (suc k) (suc n))) one) (2 ^ k))
+  mask_of n r = sum 8 (λ k. only (value listing (Shown (suc r) (suc k) (suc n)) == one) (2 ^ k))
 
   unfoldable pub volume_of : ℕ → Variable → ℕ
   volume_of n v = volume (value listing v) (step_length network n)
@@ -134,7 +136,8 @@ module _ (network : List Line) (listing : List Entry) where
 
   -- ---- the call, with a buffer of so many bytes
   unfoldable pub write_checks : ℕ → Checks
-  write_checks size = network_checks network then listing_checks then check 24 0 0 (leb (length plan_text) size)
+  write_checks size =
+      network_checks network then listing_checks then check 24 0 0 (nat_le (length plan_text) size)
 
   unfoldable pub plan_from_listing : ℕ → Result ℕ Refusal
   plan_from_listing size = text_answer plan_text (verdict (write_checks size))

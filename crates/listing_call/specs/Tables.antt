@@ -1,6 +1,6 @@
 -- The program's tables of a listing's numbers, a row for each step: the numbers of its line, and a bit for each
 -- variable that was set. These definitions are not the request's: the contracts between the functions use them.
-use Rattle.std.specs.Prelude.{ℕ, suc, ◌+◌, ◌*◌, ◌-◌, ◌/◌, ◌%◌, ◌^◌, ◌≤◌, ◌<◌, ◌≡◌, Bool, true, false, cond, List, [], eqb, length, get_or, set, bit_or, Option, Some, None, Result, Ok, Err, ok_or, option_map}
+use Rattle.std.specs.Prelude.{ℕ, suc, ◌+◌, ◌*◌, ◌-◌, ◌/◌, ◌%◌, ◌^◌, ◌≤◌, ◌<◌, ◌≡◌, Bool, true, false, if◌then◌else◌, List, [], ◌==◌, length, slice_index, slice_index_or, set, bit_or, Option, Some, None, Result, Ok, Err, ok_or, option_map}
 use Rattle.base_search.specs.declared.Refusal.{Refusal}
 use Rattle.base_search.specs.Checks.{Verdict, refusal, each, verdict}
 use Rattle.base_laws.specs.Test.{◌and◌, within}
@@ -33,7 +33,7 @@ bits = max_steps * step_bits
 -- a table has a row of so many numbers for each step
 pub record RowsSized (width : ℕ) (rows : List (List ℕ)) : Type 0 where
   pub steps : length rows ≡ max_steps
-  pub row : (n : ℕ) → n < max_steps → length (get_or rows n []) ≡ width
+  pub row : (n : ℕ) → n < max_steps → length (slice_index_or rows n []) ≡ width
 
 -- ---- places
 -- the bit of a variable among the 176 of its step: 64 for phases, 24 for admitted, 24 for let out, 64 for moved
@@ -60,7 +60,7 @@ Placed (Moved j n) = (1 ≤ n) × (n ≤ max_steps) × (1 ≤ j) × (j ≤ max_m
 -- ---- what the tables of a network say: what it has, and how long a step is
 -- the index, from 0, of what is counted from 1; none unless the number is one of 1 to `count`
 abbrev pub index_in : ℕ → ℕ → Option ℕ
-index_in number count = cond (within 1 number count) (Some (number - 1)) None
+index_in number count = if within 1 number count then Some (number - 1) else None
 
 abbrev pub has_in : Counts → List Signal → Variable → Bool
 has_in counts signals (Shown r k n) = within 1 r counts.signals and within 1 k (signal_at signals (r - 1)).phases and within 1 n counts.steps
@@ -77,7 +77,7 @@ abbrev pub spot : Variable → Place
 spot v = record { step = step_of v - 1; bit = bit_column v; number = column v }
 
 abbrev pub variable_place : Counts → List Signal → Variable → Option Place
-variable_place counts signals v = cond (has_in counts signals v) (Some (spot v)) None
+variable_place counts signals v = if has_in counts signals v then Some (spot v) else None
 
 -- it lies inside the tables
 pub record Inside (counts : Counts) (place : Place) : Type 0 where
@@ -87,29 +87,30 @@ pub record Inside (counts : Counts) (place : Place) : Type 0 where
 
 -- ---- bits, eight to a byte
 abbrev pub bit_at : List ℕ → ℕ → ℕ
-bit_at bytes k = get_or bytes (k / 8) 0 / 2 ^ (k % 8) % 2
+bit_at bytes k = slice_index bytes (k / 8) / 2 ^ (k % 8) % 2
 
 abbrev pub with_bit : List ℕ → ℕ → List ℕ
-with_bit bytes k = set bytes (k / 8) (bit_or (get_or bytes (k / 8) 0) (2 ^ (k % 8)))
+with_bit bytes k = set bytes (k / 8) (bit_or (slice_index bytes (k / 8)) (2 ^ (k % 8)))
 
 -- ---- what the tables hold of a variable: its bit, and its number
 abbrev pub mark_at : List (List ℕ) → Variable → ℕ
-mark_at seen v = bit_at (get_or seen (step_of v - 1) []) (bit_column v)
+mark_at seen v = bit_at (slice_index_or seen (step_of v - 1) []) (bit_column v)
 
 abbrev pub variable_number : List (List ℕ) → Variable → ℕ
-variable_number numbers v = get_or (get_or numbers (step_of v - 1) []) (column v) 0
+variable_number numbers v = slice_index (slice_index_or numbers (step_of v - 1) []) (column v)
 
 -- ---- numbers
 -- the bit of a phase in a mask
 abbrev pub phase_bit : ℕ → ℕ
-phase_bit k = cond (within 1 k 8) (2 ^ (k - 1)) 0
+phase_bit k = if within 1 k 8 then 2 ^ (k - 1) else 0
 
 abbrev pub volume_in : ℕ → ℕ → Option ℕ
-volume_in millionths seconds = cond (is_volume millionths seconds) (Some (volume millionths seconds)) None
+volume_in millionths seconds =
+    if is_volume millionths seconds then Some (volume millionths seconds) else None
 
 -- what a line adds to the number of its variable
 abbrev pub number_in : Variable → ℕ → ℕ → Option ℕ
-number_in (Shown r k n) millionths seconds = Some (only (eqb millionths one) (phase_bit k))
+number_in (Shown r k n) millionths seconds = Some (only (millionths == one) (phase_bit k))
 number_in (Admitted i n) millionths seconds = volume_in millionths seconds
 number_in (LetOut i n) millionths seconds = volume_in millionths seconds
 number_in (Moved j n) millionths seconds = volume_in millionths seconds
@@ -117,13 +118,17 @@ number_in (Moved j n) millionths seconds = volume_in millionths seconds
 -- what a line adds to which place, by the bits of the variables that were set before; or its refusal
 unfoldable pub outcome : Counts → List Signal → List ℕ → List (List ℕ) → ℕ → Setting → Result (Place × ℕ) Refusal
 outcome counts signals times seen line s =
-    cond (has_in counts signals s.variable and valid_value s.variable s.millionths and eqb (mark_at seen s.variable) 0)
-    (ok_or (option_map (λ x. (spot s.variable, x)) (number_in s.variable s.millionths (seconds_in times (step_of s.variable - 1)))) (refusal 23 line 0))
-    (Err (refusal 22 line 0))
+    if has_in counts signals s.variable
+    and valid_value s.variable s.millionths
+    and mark_at seen s.variable == 0
+    then (ok_or (option_map (λ x. (spot s.variable, x))
+    (number_in s.variable s.millionths
+    (seconds_in times (step_of s.variable - 1)))) (refusal 23 line 0))
+    else Err (refusal 22 line 0)
 
 -- ---- the tables after the first i lines
 unfoldable pub bit : Bool → ℕ
-bit t = cond t 1 0
+bit t = if t then 1 else 0
 
 unfoldable pub has_volume : Variable → Bool
 has_volume (Shown r k n) = false
@@ -132,15 +137,17 @@ has_volume (LetOut i n) = true
 has_volume (Moved j n) = true
 
 unfoldable pub mask_before : List Entry → ℕ → ℕ → ℕ → ℕ
-mask_before listing i n r = sum 8 (λ k. only (eqb (value_before listing i (Shown (suc r) (suc k) (suc n))) one) (2 ^ k))
+mask_before listing i n r =
+    sum 8 (λ k. only (value_before listing i (Shown (suc r) (suc k) (suc n)) == one) (2 ^ k))
 
 pub record Stored (seconds : ℕ → ℕ) (listing : List Entry) (i : ℕ) (numbers seen : List (List ℕ)) : Type 0 where
   pub number-room : RowsSized line_size numbers
   pub seen-room : RowsSized step_bytes seen
   pub marks : (v : Variable) → Placed v → mark_at seen v ≡ bit (set_before listing i v)
-  pub masks : (n r : ℕ) → n < max_steps → r < max_signals → get_or (get_or numbers n []) r 0 ≡ mask_before listing i n r
+  pub masks : (n r : ℕ) → n < max_steps → r < max_signals
+      → slice_index (slice_index_or numbers n []) r ≡ mask_before listing i n r
   pub volumes : (v : Variable) → Placed v → has_volume v ≡ true → variable_number numbers v ≡ volume (value_before listing i v) (seconds (step_of v - 1))
-  pub counted : sum max_steps (λ n. sum step_bits (bit_at (get_or seen n []))) ≡ i
+  pub counted : sum max_steps (λ n. sum step_bits (bit_at (slice_index_or seen n []))) ≡ i
 
 -- ---- what the functions require and promise
 pub record TablesFit (counts : Counts) (signals : List Signal) (times : List ℕ) : Type 0 where
@@ -154,8 +161,8 @@ pub record TablesFit (counts : Counts) (signals : List Signal) (times : List ℕ
 pub record Empty (numbers seen : List (List ℕ)) : Type 0 where
   pub number-room : RowsSized line_size numbers
   pub seen-room : RowsSized step_bytes seen
-  pub no-numbers : (n k : ℕ) → get_or (get_or numbers n []) k 0 ≡ 0
-  pub no-marks : (n k : ℕ) → get_or (get_or seen n []) k 0 ≡ 0
+  pub no-numbers : (n k : ℕ) → slice_index (slice_index_or numbers n []) k ≡ 0
+  pub no-marks : (n k : ℕ) → slice_index (slice_index_or seen n []) k ≡ 0
 
 pub record ListingGot (has : Variable → Bool) (seconds : ℕ → ℕ) (listing : List Entry) (result : Verdict) (numbers seen : List (List ℕ)) : Type 0 where
   pub told : result ≡ verdict (each (length listing) (entry_checks_by has seconds listing))

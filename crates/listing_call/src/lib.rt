@@ -116,7 +116,7 @@ impl Tables<'_> {
     ) -> Result<(Place, u32), Refusal>
         requires small { setting.millionths < 10 ^ 16 }
         requires seen_room { length seen.now ≡ max_steps }
-        requires few_lines { line < 4294967296 }
+        requires few_lines { line < 2 ^ 32 }
         ensures value { result ≡ outcome self.now.counts self.now.signals.now self.now.times.now seen.now line setting }
         ensures inside { IfOk result (λ added. Inside self.now.counts added.0) }
     {

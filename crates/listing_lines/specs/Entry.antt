@@ -1,6 +1,6 @@
 -- What a line of a solver's listing says (request T-01): a variable, a space and a decimal. All that is above the reader is stated over the list of entries alone,
 -- never over bytes.
-use Rattle.std.specs.Prelude.{ℕ, ◌==◌, ◌+◌, ◌-◌, ◌*◌, ◌^◌, ◌≡◌, List, [], ◌∷◌, Bool, cond, ◌&&◌, length, take, drop, get_or, leb, ltb, eqb, Option, Some, None, option_map, option_and_then}
+use Rattle.std.specs.Prelude.{ℕ, ◌==◌, ◌+◌, ◌-◌, ◌*◌, ◌^◌, ◌≡◌, List, [], ◌∷◌, Bool, if◌then◌else◌, ◌&&◌, length, take, drop, slice_index, slice_index_or, nat_le, nat_lt, Option, Some, None, option_map, option_and_then}
 use Rattle.std.specs.List.{position, position_or_len, slice_split}
 use Rattle.std.specs.Option.{option_zip}
 use Rattle.text_reader.specs.Field.{digits, decimal}
@@ -19,7 +19,8 @@ split_once c bs = option_map (λ i. (take i bs, drop (i + 1) bs)) (position (λ 
 -- ---- the decimal
 -- one to `most` digits; leading zeros are allowed
 abbrev pub digits_of : ℕ → List ℕ → Option ℕ
-digits_of most bs = cond (leb 1 (length bs) && leb (length bs) most && digits bs) (Some (decimal bs)) None
+digits_of most bs =
+    if nat_le 1 (length bs) && nat_le (length bs) most && digits bs then Some (decimal bs) else None
 
 -- the digits behind a point, one to six, in millionths
 abbrev pub fraction_of : List ℕ → Option ℕ
@@ -49,12 +50,12 @@ letter_moved = 109
 
 -- a zero (byte 48) with more after it
 abbrev pub leading_zero : List ℕ → Bool
-leading_zero bs = ltb 1 (length bs) && eqb (get_or bs 0 0) 48
+leading_zero bs = nat_lt 1 (length bs) && slice_index bs 0 == 48
 
 -- a number of a name: digits without a leading zero. The listing has its own grammar, since that of the records may
 -- change. A number of more than ten digits names what no network has, and is refused too.
 abbrev pub index_of : List ℕ → Option ℕ
-index_of bs = cond (leading_zero bs) None (digits_of 10 bs)
+index_of bs = if leading_zero bs then None else digits_of 10 bs
 
 -- two numbers, an underscore (byte 95) between them
 abbrev pub pair_of : List ℕ → Option (ℕ × ℕ)
@@ -67,12 +68,17 @@ phase_in bs = option_and_then (λ p. option_map (λ n. Shown n.0 n.1.0 n.1.1) (o
 -- `i_i_n`, `o_i_n` and `m_j_n`, by their two
 abbrev pub volume_named : ℕ → ℕ × ℕ → Option Variable
 volume_named letter (item, step) =
-    cond (eqb letter letter_admitted) (Some (Admitted item step))
-    (cond (eqb letter letter_let_out) (Some (LetOut item step)) (cond (eqb letter letter_moved) (Some (Moved item step)) None))
+    if letter == letter_admitted then Some (Admitted item step)
+    else if letter == letter_let_out then Some (LetOut item step)
+    else if letter == letter_moved then Some (Moved item step)
+    else None
 
 -- a name by its letter and what stands behind the underscore after it
 abbrev pub variable_in : ℕ → List ℕ → Option Variable
-variable_in letter bs = cond (eqb letter letter_shown) (phase_in bs) (option_and_then (volume_named letter) (pair_of bs))
+variable_in letter bs =
+    if letter == letter_shown
+    then phase_in bs
+    else option_and_then (volume_named letter) (pair_of bs)
 
 -- the same by all that stands before that underscore: one byte
 abbrev pub named : List ℕ → List ℕ → Option Variable
@@ -94,7 +100,7 @@ entry_of bs = option_and_then (λ p. option_map (λ n. setting n.0 n.1) (option_
 -- the last piece of a text is a line without an end, so malformed, unless nothing stands there
 unfoldable pub entries_of : List (List ℕ) → List Entry
 entries_of [] = []
-entries_of (last ∷ []) = cond (eqb (length last) 0) [] (None ∷ [])
+entries_of (last ∷ []) = if length last == 0 then [] else None ∷ []
 entries_of (bytes ∷ next ∷ more) = entry_of bytes ∷ entries_of (next ∷ more)
 
 -- a listing's lines: a line feed (byte 10) ends each
@@ -104,7 +110,7 @@ entries text = entries_of (slice_split (λ b. b == 10) text)
 -- ---- by places
 -- the line that starts at a place; malformed where none does
 unfoldable pub entry_at : List ℕ → ℕ → Entry
-entry_at text at = get_or (entries (drop at text)) 0 None
+entry_at text at = slice_index_or (entries (drop at text)) 0 None
 
 -- the place past the line feed of the line that starts at a place
 unfoldable pub next_entry : List ℕ → ℕ → ℕ

@@ -1,5 +1,5 @@
 -- The calls: their answers, and the ledger after a plan's check.
-use Rattle.std.specs.Prelude.{ℕ, suc, ◌+◌, ◌*◌, ◌-◌, ◌/◌, Bool, true, false, cond, List, [], ◌++◌, leb, ltb, eqb, length, get_or, drop, Result, Ok, Err}
+use Rattle.std.specs.Prelude.{ℕ, suc, ◌+◌, ◌*◌, ◌-◌, ◌/◌, Bool, true, false, if◌then◌else◌, List, [], ◌++◌, nat_le, nat_lt, ◌==◌, length, slice_index, drop, Result, Ok, Err}
 use Rattle.base_search.specs.Checks.{Checks, check, each, ◌then◌, verdict, Verdict}
 use Rattle.text_reader.specs.Lines.{Line}
 use Rattle.base_laws.specs.Test.{◌and◌, ◌or◌, within}
@@ -53,10 +53,10 @@ ledger_after network plan old = written network plan old (rows_written network p
 module _ (network : List Line) (ledger : List ℕ) (boundary link : ℕ) where
   -- entered at boundary n, and left, as the ledger has them
   unfoldable pub ledger_entered : ℕ → ℕ
-  ledger_entered n = get_or ledger (2 * n * link_count network + 2 * (link - 1)) 0
+  ledger_entered n = slice_index ledger (2 * n * link_count network + 2 * (link - 1))
 
   unfoldable pub ledger_left : ℕ
-  ledger_left = get_or ledger (2 * boundary * link_count network + 2 * (link - 1) + 1) 0
+  ledger_left = slice_index ledger (2 * boundary * link_count network + 2 * (link - 1) + 1)
 
   -- the step of the timeline in which the travel time ends, its length, and the seconds of it that have elapsed by then
   unfoldable pub end_step : ℕ
@@ -72,17 +72,23 @@ module _ (network : List Line) (ledger : List ℕ) (boundary link : ℕ) where
   -- it), from then on by the ledger
   unfoldable pub arrival_entered : ℕ → ℕ
   arrival_entered m =
-      cond (ltb (time network boundary) (travel_time network (link - 1))) (timeline_entered network [] m (link - 1)) (ledger_entered (m - past_count network))
+      if nat_lt (time network boundary) (travel_time network (link - 1))
+      then timeline_entered network [] m (link - 1)
+      else ledger_entered (m - past_count network)
 
   -- arrived × that step's length, so that nothing is rounded; before the timeline has run for the travel time by the `Q` line
   unfoldable pub scaled_arrived : ℕ
   scaled_arrived =
-      cond (ltb (timeline_time network (on_timeline network boundary)) (travel_time network (link - 1))) (standing network (link - 1) * end_length)
-      (arrival_entered end_step * end_length + (arrival_entered (suc end_step) - arrival_entered end_step) * end_elapsed)
+      if nat_lt (timeline_time network (on_timeline network boundary))
+      (travel_time network (link - 1))
+      then standing network (link - 1) * end_length
+      else arrival_entered end_step * end_length
+      + (arrival_entered (suc end_step) - arrival_entered end_step) * end_elapsed
 
   -- the entered count does not fall over a step inside which the travel time ends
   unfoldable pub rises_inside : Bool
-  rises_inside = eqb end_elapsed 0 or leb (arrival_entered end_step) (arrival_entered (suc end_step))
+  rises_inside =
+      end_elapsed == 0 or nat_le (arrival_entered end_step) (arrival_entered (suc end_step))
 
   -- arrived, rounded down
   unfoldable pub ledger_arrived : ℕ
@@ -92,9 +98,12 @@ module _ (network : List Line) (ledger : List ℕ) (boundary link : ℕ) where
   state_checks =
       network_checks network
       then ledger_checks network (length ledger)
-      then check 19 0 0 (leb boundary (step_count network))
+      then check 19 0 0 (nat_le boundary (step_count network))
       then check 20 0 0 (within 1 link (link_count network))
-      then check 21 0 0 (rises_inside and leb (ledger_left * end_length) scaled_arrived and leb scaled_arrived (ledger_entered boundary * end_length))
+      then check 21 0 0
+      (rises_inside
+      and nat_le (ledger_left * end_length) scaled_arrived
+      and nat_le scaled_arrived (ledger_entered boundary * end_length))
 
   -- queued, rounded down, and the rest in transit
   unfoldable pub link_answer : Verdict → Result LinkState Refusal

@@ -1,6 +1,6 @@
 -- What the lines of a plan text say on a network, and the traffic that follows from them. Step n leads from boundary n
 -- to boundary n + 1; n counts the plan's steps and boundaries, m the timeline's.
-use Rattle.std.specs.Prelude.{ℕ, zero, suc, ◌+◌, ◌*◌, ◌-◌, List, [], ◌∷◌, ◌++◌, Bool, cond, leb, ltb, eqb}
+use Rattle.std.specs.Prelude.{ℕ, zero, suc, ◌+◌, ◌*◌, ◌-◌, List, [], ◌∷◌, ◌++◌, Bool, if◌then◌else◌, nat_le, nat_lt, ◌==◌}
 use Rattle.text_reader.specs.Lines.{Line}
 use Rattle.model.specs.declared.Signal.{Signal}
 use Rattle.model.specs.declared.Totals.{Totals}
@@ -37,18 +37,24 @@ module _ (network plan : List Line) where
   -- signal r at boundary n: it goes on in ordinary steps alone, and in a tram's step stands still
   unfoldable pub signal_at : ℕ → ℕ → Signal
   signal_at zero r = signal network r
-  signal_at (suc n) r = cond (ordinary network n r) (after (signal_at n r) (shown_in n r) (step_length network n)) (signal_at n r)
+  signal_at (suc n) r =
+      if ordinary network n r
+      then after (signal_at n r) (shown_in n r) (step_length network n)
+      else signal_at n r
 
   -- a link without a signal is always open; another is open in step n if its signal shows a phase of the link's mask
   unfoldable pub is_open : ℕ → ℕ → Bool
-  is_open n i = eqb (signal_of network i) 0 or opens (phase_mask network i) (shown_in n (signal_of network i - 1))
+  is_open n i =
+      signal_of network i == 0
+      or opens (phase_mask network i) (shown_in n (signal_of network i - 1))
 
   -- the sum of all movements into, and from, link i in step n
   unfoldable pub moved_into : ℕ → ℕ → ℕ
-  moved_into n i = sum (movement_count network) (λ j. only (eqb (to_link network j) (suc i)) (moved n j))
+  moved_into n i = sum (movement_count network) (λ j. only (to_link network j == suc i) (moved n j))
 
   unfoldable pub moved_from : ℕ → ℕ → ℕ
-  moved_from n i = sum (movement_count network) (λ j. only (eqb (from_link network j) (suc i)) (moved n j))
+  moved_from n i =
+      sum (movement_count network) (λ j. only (from_link network j == suc i) (moved n j))
 
   -- what enters, and leaves, link i in step n
   unfoldable pub inflow : ℕ → ℕ → ℕ
@@ -59,10 +65,16 @@ module _ (network plan : List Line) where
 
   -- the same in step m of the timeline: of a past step as its `H` line says
   unfoldable pub timeline_inflow : ℕ → ℕ → ℕ
-  timeline_inflow m i = cond (ltb m (past_count network)) (past_entries network m i) (inflow (m - past_count network) i)
+  timeline_inflow m i =
+      if nat_lt m (past_count network)
+      then past_entries network m i
+      else inflow (m - past_count network) i
 
   unfoldable pub timeline_outflow : ℕ → ℕ → ℕ
-  timeline_outflow m i = cond (ltb m (past_count network)) (past_exits network m i) (outflow (m - past_count network) i)
+  timeline_outflow m i =
+      if nat_lt m (past_count network)
+      then past_exits network m i
+      else outflow (m - past_count network) i
 
   -- the two curves at boundary m of the timeline: the standing start plus what entered in its first m steps, and what left in them
   unfoldable pub timeline_entered : ℕ → ℕ → ℕ
@@ -84,8 +96,11 @@ module _ (network plan : List Line) where
   unfoldable pub has_arrived : ℕ → ℕ → ℕ → Bool
   has_arrived volume n i =
       let a = arrival_step network n i in
-      cond (ltb (timeline_time network (on_timeline network n)) (travel_time network i)) (leb volume (standing network i))
-      (leb (volume * timeline_length network a) (timeline_entered a i * timeline_length network a + timeline_inflow a i * elapsed network n i))
+      if nat_lt (timeline_time network (on_timeline network n)) (travel_time network i)
+      then nat_le volume (standing network i)
+      else nat_le (volume * timeline_length network a)
+      (timeline_entered a i * timeline_length network a
+      + timeline_inflow a i * elapsed network n i)
 
   -- what link i holds at boundary n, and all links: the vehicles in the network
   unfoldable pub held : ℕ → ℕ → ℕ

@@ -1,5 +1,5 @@
 -- What a plan text stands for (T-07): an empty one means that the network holds.
-use Rattle.std.specs.Prelude.{ℕ, ◌+◌, ◌*◌, ◌-◌, ◌^◌, ◌≡◌, List, [], ◌∷◌, ltb, length, Result}
+use Rattle.std.specs.Prelude.{ℕ, ◌+◌, ◌*◌, ◌-◌, ◌^◌, ◌≡◌, List, [], ◌∷◌, nat_lt, length, Result}
 use Rattle.text_reader.specs.Lines.{Line, lines}
 use Rattle.text_writer.specs.Records.{record_texts, record_lines}
 use Rattle.base_laws.specs.Sum.{only}
@@ -14,7 +14,8 @@ module _ (network : List Line) where
   -- the numbers of a line in which each signal keeps its shown phase and every volume is 0
   unfoldable pub hold_numbers : List ℕ
   hold_numbers =
-      list (signal_count network + (2 * link_count network + movement_count network)) (λ k. only (ltb k (signal_count network)) (2 ^ ((signal network k).shown - 1)))
+      list (signal_count network + (2 * link_count network + movement_count network))
+      (λ k. only (nat_lt k (signal_count network)) (2 ^ ((signal network k).shown - 1)))
 
   -- the plan that holds: K such lines, and its text as it is written
   unfoldable pub hold_lines : List Line

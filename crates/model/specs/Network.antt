@@ -1,7 +1,7 @@
 -- What the lines of a network text say ("The two texts"). Lines, signals, links, movements and steps are counted from 0 here, phases from 1.
 -- The timeline is the past steps (`H` lines) and behind them the plan's (`S` lines), lines whose first number is a length. Step m of the timeline leads from its
 -- boundary m to m + 1; step n and boundary n of the plan are its step and boundary `on_timeline n`.
-use Rattle.std.specs.Prelude.{ℕ, zero, suc, ◌+◌, ◌*◌, ◌-◌, List, [], ◌∷◌, cond, Bool, leb, eqb, get_or, take, drop}
+use Rattle.std.specs.Prelude.{ℕ, zero, suc, ◌+◌, ◌*◌, ◌-◌, List, [], ◌∷◌, if◌then◌else◌, Bool, nat_le, ◌==◌, slice_index_or, take, drop}
 use Rattle.text_reader.specs.Lines.{Line, no_line, number}
 use Rattle.model.specs.declared.Signal.{Signal}
 use Rattle.base_laws.specs.Test.{◌and◌, within}
@@ -29,17 +29,17 @@ max_past = 120
 
 -- number k of line i
 unfoldable pub entry : List Line → ℕ → ℕ → ℕ
-entry text i k = number (get_or text i no_line) k
+entry text i k = number (slice_index_or text i no_line) k
 
 -- ---- trams: the numbers of a `T` line are signal, phase, first step and last step, all from 1
 -- the line is for signal r in step n
 unfoldable pub covers : Line → ℕ → ℕ → Bool
-covers tram r n = eqb (number tram 0) (suc r) and within (number tram 2) (suc n) (number tram 3)
+covers tram r n = number tram 0 == suc r and within (number tram 2) (suc n) (number tram 3)
 
 -- the phase that a tram asks of signal r in step n (C17, C18); 0 in an ordinary step
 unfoldable pub tram_phase : List Line → ℕ → ℕ → ℕ
 tram_phase [] r n = 0
-tram_phase (tram ∷ more) r n = cond (covers tram r n) (number tram 1) (tram_phase more r n)
+tram_phase (tram ∷ more) r n = if covers tram r n then number tram 1 else tram_phase more r n
 
 module _ (network : List Line) where
   -- the `N` line: L, R, M, K, and the counts of `T` and `H` lines
@@ -90,7 +90,7 @@ module _ (network : List Line) where
 
   -- no tram claims signal r in step n
   unfoldable pub ordinary : ℕ → ℕ → Bool
-  ordinary n r = eqb (tram_phase trams r n) 0
+  ordinary n r = tram_phase trams r n == 0
 
   -- signal r before the plan, by its `G` line; the times of a phase past 8 are not kept
   unfoldable pub signal : ℕ → Signal
@@ -171,7 +171,7 @@ module _ (network : List Line) where
   -- the last of the timeline's first m steps that starts by x seconds from its start
   unfoldable pub step_at : ℕ → ℕ → ℕ
   step_at zero x = zero
-  step_at (suc m) x = cond (leb (timeline_time m) x) m (step_at m x)
+  step_at (suc m) x = if nat_le (timeline_time m) x then m else step_at m x
 
   -- the step of the timeline in which t(n) minus the travel time of link i lies, and the seconds of it that have elapsed by then; 0 where that is before the timeline
   unfoldable pub arrival_step : ℕ → ℕ → ℕ

@@ -1,5 +1,5 @@
 -- The rules, each a test: refusals 2 to 6, 28 and 30 of a network's values, and rules 10 to 18, 25 to 27 and 29 of step n.
-use Rattle.std.specs.Prelude.{ℕ, zero, suc, ◌+◌, ◌*◌, ◌-◌, ◌^◌, Bool, true, not, cond, List, [], leb, ltb, eqb, get_or}
+use Rattle.std.specs.Prelude.{ℕ, zero, suc, ◌+◌, ◌*◌, ◌-◌, ◌^◌, Bool, true, not, if◌then◌else◌, List, [], nat_le, nat_lt, ◌==◌, slice_index, slice_index_or}
 use Rattle.text_reader.specs.Lines.{Line, no_line, number}
 use Rattle.model.specs.declared.Signal.{Signal}
 use Rattle.base_laws.specs.Test.{◌and◌, ◌or◌, within, every}
@@ -16,30 +16,40 @@ valid_phases s = within 2 s.phases 8
 unfoldable pub valid_signal : Signal → Bool
 valid_signal s =
     within 1 s.shown s.phases
-    and every s.phases (λ k. leb 1 (get_or s.least k 0) and within (get_or s.least k 0) (get_or s.greatest k 0) 3600)
-    and leb 1 s.least_cycle and within s.least_cycle s.greatest_cycle 3600
-    and leb s.shown_for (greatest_time s s.shown)
+    and every s.phases
+    (λ k. nat_le 1 (slice_index s.least k) and within (slice_index s.least k)
+    (slice_index s.greatest k) 3600)
+    and nat_le 1 s.least_cycle and within s.least_cycle s.greatest_cycle 3600
+    and nat_le s.shown_for (greatest_time s s.shown)
     and within s.shown_for s.cycle_clock s.greatest_cycle
-    and (not (eqb s.shown 1) or eqb s.cycle_clock s.shown_for)
+    and (not (s.shown == 1) or s.cycle_clock == s.shown_for)
 
 -- two tram lines that are not for one signal in one step
 unfoldable pub apart : Line → Line → Bool
-apart t u = not (eqb (number t 0) (number u 0)) or ltb (number t 3) (number u 2) or ltb (number u 3) (number t 2)
+apart t u =
+    not (number t 0 == number u 0)
+    or nat_lt (number t 3) (number u 2)
+    or nat_lt (number u 3) (number t 2)
 
 -- 28, a tram line: its signal is 1 to R, its steps are 1 to K and do not run backwards
 unfoldable pub tram_exists : ℕ → ℕ → Line → Bool
-tram_exists R K t = within 1 (number t 0) R and leb 1 (number t 2) and within (number t 2) (number t 3) K
+tram_exists R K t =
+    within 1 (number t 0) R and nat_le 1 (number t 2) and within (number t 2) (number t 3) K
 
 module _ (network : List Line) where
   -- 2: L 1 to 24, R 0 to 8, M 0 to 64, K 1 to 120, 0 to 16 `T` lines, 0 to 120 `H` lines
   unfoldable pub valid_counts : Bool
   valid_counts =
-      within 1 (link_count network) max_links and leb (signal_count network) max_signals and leb (movement_count network) max_movements
-      and within 1 (step_count network) max_steps and leb (tram_count network) max_trams and leb (past_count network) max_past
+      within 1 (link_count network) max_links
+      and nat_le (signal_count network) max_signals
+      and nat_le (movement_count network) max_movements
+      and within 1 (step_count network) max_steps
+      and nat_le (tram_count network) max_trams
+      and nat_le (past_count network) max_past
 
   -- `T` line k
   abbrev pub tram : ℕ → Line
-  tram k = get_or network (tram_line network k) no_line
+  tram k = slice_index_or network (tram_line network k) no_line
 
   -- 28, `T` line k: its signal and steps exist, and no earlier line is for its signal in one of them
   unfoldable pub valid_tram : ℕ → Bool
@@ -52,46 +62,57 @@ module _ (network : List Line) where
   -- 4, the mask of link i: 0 without a signal; with one not 0, and no phase above its P
   unfoldable pub valid_mask : ℕ → Bool
   valid_mask i =
-      cond (eqb (signal_of network i) 0) (eqb (phase_mask network i) 0)
-      (leb 1 (phase_mask network i) and ltb (phase_mask network i) (2 ^ (signal network (signal_of network i - 1)).phases))
+      if signal_of network i == 0
+      then phase_mask network i == 0
+      else nat_le 1 (phase_mask network i)
+      and nat_lt (phase_mask network i) (2 ^ (signal network (signal_of network i - 1)).phases)
 
   -- 4, link i
   unfoldable pub valid_link : ℕ → Bool
   valid_link i =
-      leb (capacity network i) 2_000_000_000 and within 1 (travel_time network i) 3600 and leb (exit_rate network i) 10_000
-      and leb (signal_of network i) (signal_count network) and valid_mask i
-      and leb (standing network i) (capacity network i)
+      nat_le (capacity network i) 2_000_000_000
+      and within 1 (travel_time network i) 3600
+      and nat_le (exit_rate network i) 10_000
+      and nat_le (signal_of network i) (signal_count network) and valid_mask i
+      and nat_le (standing network i) (capacity network i)
 
   -- 5: (from, to) of movement j is above that of the movement before
   unfoldable pub pair_rises : ℕ → Bool
   pair_rises zero = true
   pair_rises (suc j) =
-      ltb (from_link network j) (from_link network (suc j))
-      or eqb (from_link network j) (from_link network (suc j)) and ltb (to_link network j) (to_link network (suc j))
+      nat_lt (from_link network j) (from_link network (suc j))
+      or from_link network j == from_link network (suc j)
+      and nat_lt (to_link network j) (to_link network (suc j))
 
   -- 5, movement j
   unfoldable pub valid_movement : ℕ → Bool
   valid_movement j =
       within 1 (from_link network j) (link_count network) and within 1 (to_link network j) (link_count network)
-      and not (eqb (from_link network j) (to_link network j)) and within 1 (rate network j) 10_000 and within 1 (share network j) 1000 and pair_rises j
+      and not (from_link network j == to_link network j)
+      and within 1 (rate network j) 10_000
+      and within 1 (share network j) 1000
+      and pair_rises j
 
   -- the number, from 1, of the last of the first m movements that leaves link i; 0 where none does
   unfoldable pub last_movement : ℕ → ℕ → ℕ
   last_movement zero i = 0
-  last_movement (suc m) i = cond (eqb (from_link network m) (suc i)) (suc m) (last_movement m i)
+  last_movement (suc m) i = if from_link network m == suc i then suc m else last_movement m i
 
   -- 5, after all `M` lines: link i has no movements, or their shares sum to 1000
   unfoldable pub valid_shares : ℕ → Bool
   valid_shares i =
-      eqb (last_movement (movement_count network) i) 0
-      or eqb (sum (movement_count network) (λ j. only (eqb (from_link network j) (suc i)) (share network j))) 1000
+      last_movement (movement_count network) i == 0
+      or sum (movement_count network) (λ j. only (from_link network j == suc i) (share network j))
+      == 1000
 
   -- 6, step n: its length is 1 to 60 and at most every phase's greatest time, each demand is at most 600,000
   unfoldable pub valid_step : ℕ → Bool
   valid_step n =
       within 1 (step_length network n) 60
-      and every (signal_count network) (λ r. every (signal network r).phases (λ k. leb (step_length network n) (get_or (signal network r).greatest k 0)))
-      and every (link_count network) (λ i. leb (demand network n i) 600_000)
+      and every (signal_count network)
+      (λ r. every (signal network r).phases
+      (λ k. nat_le (step_length network n) (slice_index (signal network r).greatest k)))
+      and every (link_count network) (λ i. nat_le (demand network n i) 600_000)
 
   -- 30, link i when the past ends, which no plan changes: at most what has arrived has left it, and it holds at most
   -- its capacity; and past entries, waiting volume and demands are at most 72,000,000 (120 × 600,000) + 13,800,000 (23
@@ -99,14 +120,15 @@ module _ (network : List Line) where
   unfoldable pub valid_past_of : ℕ → Bool
   valid_past_of i =
       has_arrived network [] (left network [] 0 i) 0 i
-      and leb (held network [] 0 i) (capacity network i)
-      and leb (sum (past_count network) (λ m. past_entries network m i) + offered network (step_count network) i) (72_000_000 + 13_800_000 * past_count network)
+      and nat_le (held network [] 0 i) (capacity network i)
+      and nat_le (sum (past_count network) (λ m. past_entries network m i) + offered network
+      (step_count network) i) (72_000_000 + 13_800_000 * past_count network)
 
   -- 30: the length of a past step is 1 to 60, past and present steps are at most 120 together, and each link's past is good
   unfoldable pub valid_past : Bool
   valid_past =
       every (past_count network) (λ m. within 1 (timeline_length network m) 60)
-      and leb (past_count network + step_count network) max_steps
+      and nat_le (past_count network + step_count network) max_steps
       and every (link_count network) valid_past_of
 
 module _ (network plan : List Line) (n : ℕ) where
@@ -116,7 +138,7 @@ module _ (network plan : List Line) (n : ℕ) where
 
   -- 29 (C17): in a tram's step its phase is shown
   unfoldable pub rule29 : ℕ → Bool
-  rule29 r = ordinary network n r or eqb (shown_in network plan n r) (tram_phase (trams network) r n)
+  rule29 r = ordinary network n r or shown_in network plan n r == tram_phase (trams network) r n
 
   -- 11 to 14 of signal r, in ordinary steps: as `Signals` has them, for the signal at the step's start
   unfoldable pub rule11 : ℕ → Bool
@@ -133,23 +155,25 @@ module _ (network plan : List Line) (n : ℕ) where
 
   -- 15 (C2), link i: admitted by the step's end is at most what has come to the entry by then
   unfoldable pub rule15 : ℕ → Bool
-  rule15 i = leb (taken network plan (suc n) i) (offered network (suc n) i)
+  rule15 i = nat_le (taken network plan (suc n) i) (offered network (suc n) i)
 
   -- 25 (C2), link i: let out is at most exit rate × length
   unfoldable pub rule25 : ℕ → Bool
-  rule25 i = leb (let_out network plan n i) (exit_rate network i * step_length network n)
+  rule25 i = nat_le (let_out network plan n i) (exit_rate network i * step_length network n)
 
   -- 26 (C2), movement j: it is at most its rate × length
   unfoldable pub rule26 : ℕ → Bool
-  rule26 j = leb (moved network plan n j) (rate network j * step_length network n)
+  rule26 j = nat_le (moved network plan n j) (rate network j * step_length network n)
 
   -- 27 (C2), movement j: it is 0 if its from link is shut
   unfoldable pub rule27 : ℕ → Bool
-  rule27 j = is_open network plan n (from_link network j - 1) or eqb (moved network plan n j) 0
+  rule27 j = is_open network plan n (from_link network j - 1) or moved network plan n j == 0
 
   -- 16 (C1), movement j: 1000 × the movement is at most its share × the sum of all movements from its link
   unfoldable pub rule16 : ℕ → Bool
-  rule16 j = leb (1000 * moved network plan n j) (share network j * moved_from network plan n (from_link network j - 1))
+  rule16 j =
+      nat_le (1000 * moved network plan n j)
+      (share network j * moved_from network plan n (from_link network j - 1))
 
   -- 17 (C5), link i: left(n) ≤ arrived(n), unrounded
   unfoldable pub rule17 : ℕ → Bool
@@ -157,4 +181,4 @@ module _ (network plan : List Line) (n : ℕ) where
 
   -- 18 (C6), link i: entered(n) − left(n−1) ≤ capacity. Space freed in a step counts from the next.
   unfoldable pub rule18 : ℕ → Bool
-  rule18 i = leb (entered network plan (suc n) i - left network plan n i) (capacity network i)
+  rule18 i = nat_le (entered network plan (suc n) i - left network plan n i) (capacity network i)

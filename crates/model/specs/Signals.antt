@@ -1,26 +1,26 @@
 -- A signal through a step: rules 10 to 14 of one signal, and what it shows afterwards.
-use Rattle.std.specs.Prelude.{ℕ, zero, suc, ◌+◌, ◌-◌, ◌/◌, ◌%◌, ◌^◌, ◌≤◌, ◌<◌, ◌≡◌, ◌≢◌, Bool, cond, not, ◌&&◌, ◌||◌, leb, eqb, get_or, List, [], ◌∷◌}
+use Rattle.std.specs.Prelude.{ℕ, zero, suc, ◌+◌, ◌-◌, ◌/◌, ◌%◌, ◌^◌, ◌≤◌, ◌<◌, ◌≡◌, ◌≢◌, Bool, if◌then◌else◌, not, ◌&&◌, ◌||◌, nat_le, ◌==◌, slice_index, List, [], ◌∷◌}
 use Rattle.model.specs.declared.Signal.{Signal}
 
 -- the phase among 1 to P whose bit is all of the mask: phase k has the bit of 2 ^ (k - 1); 0 where there is none
 unfoldable pub phase_of : ℕ → ℕ → ℕ
 phase_of mask zero = zero
-phase_of mask (suc k) = cond (eqb mask (2 ^ k)) (suc k) (phase_of mask k)
+phase_of mask (suc k) = if mask == 2 ^ k then suc k else phase_of mask k
 
 -- a link's mask has the bit of phase q
 unfoldable pub opens : ℕ → ℕ → Bool
-opens mask q = eqb (mask / 2 ^ (q - 1) % 2) 1
+opens mask q = mask / 2 ^ (q - 1) % 2 == 1
 
 -- the least and the greatest time of phase q
 abbrev pub least_time : Signal → ℕ → ℕ
-least_time s q = get_or s.least (q - 1) 0
+least_time s q = slice_index s.least (q - 1)
 
 abbrev pub greatest_time : Signal → ℕ → ℕ
-greatest_time s q = get_or s.greatest (q - 1) 0
+greatest_time s q = slice_index s.greatest (q - 1)
 
 -- the phase after phase k of P, by cases (C8): after P comes 1, after any other k comes k + 1
 abbrev pub phase_after : ℕ → ℕ → ℕ
-phase_after P k = cond (eqb k P) 1 (k + 1)
+phase_after P k = if k == P then 1 else k + 1
 
 -- the phase after the shown one
 abbrev pub next_phase : Signal → ℕ
@@ -38,35 +38,37 @@ pub record PhaseOrder : Type 0 where
 
 -- phase 1 begins again: q is 1, and was not shown before
 abbrev pub begins_cycle : Signal → ℕ → Bool
-begins_cycle s q = eqb q 1 && not (eqb s.shown 1)
+begins_cycle s q = q == 1 && not (s.shown == 1)
 
 -- the seconds of the run (the paper's word for how long a phase has shown), after a step of so many seconds that shows q
 abbrev pub shown_for_after : Signal → ℕ → ℕ → ℕ
-shown_for_after s q seconds = cond (eqb q s.shown) (s.shown_for + seconds) seconds
+shown_for_after s q seconds = if q == s.shown then s.shown_for + seconds else seconds
 
 -- the cycle clock after it
 abbrev pub clock_after : Signal → ℕ → ℕ → ℕ
-clock_after s q seconds = cond (begins_cycle s q) seconds (s.cycle_clock + seconds)
+clock_after s q seconds = if begins_cycle s q then seconds else s.cycle_clock + seconds
 
 -- 10 (C7): a signal's mask has exactly one bit set, and it is one of its P phases
 abbrev pub shows_one_phase : ℕ → Bool
-shows_one_phase q = leb 1 q
+shows_one_phase q = nat_le 1 q
 
 -- 11 (C8): the phase is that of the step before or the next
 abbrev pub keeps_order : Signal → ℕ → Bool
-keeps_order s q = eqb q s.shown || eqb q (next_phase s)
+keeps_order s q = q == s.shown || q == next_phase s
 
 -- 12 (C14): a phase that is left has shown at least its least time
 abbrev pub keeps_least_time : Signal → ℕ → Bool
-keeps_least_time s q = eqb q s.shown || leb (least_time s s.shown) s.shown_for
+keeps_least_time s q = q == s.shown || nat_le (least_time s s.shown) s.shown_for
 
 -- 13 (C9 to C13): a run's seconds, this step included, are at most its greatest time
 abbrev pub keeps_greatest_time : Signal → ℕ → ℕ → Bool
-keeps_greatest_time s q seconds = leb (shown_for_after s q seconds) (greatest_time s q)
+keeps_greatest_time s q seconds = nat_le (shown_for_after s q seconds) (greatest_time s q)
 
 -- 14 (C15, C16): when phase 1 begins again, the clock is at least the least cycle; after each step it is at most the greatest cycle
 abbrev pub keeps_cycle : Signal → ℕ → ℕ → Bool
-keeps_cycle s q seconds = (not (begins_cycle s q) || leb s.least_cycle s.cycle_clock) && leb (clock_after s q seconds) s.greatest_cycle
+keeps_cycle s q seconds =
+    (not (begins_cycle s q) || nat_le s.least_cycle s.cycle_clock)
+    && nat_le (clock_after s q seconds) s.greatest_cycle
 
 -- the signal after the step
 abbrev pub after : Signal → ℕ → ℕ → Signal
@@ -103,6 +105,9 @@ signal_by number =
 unfoldable pub signal_row : Signal → List ℕ
 signal_row s =
     s.least_cycle ∷ s.greatest_cycle ∷ s.phases ∷ s.shown ∷ s.shown_for ∷ s.cycle_clock
-    ∷ get_or s.least 0 0 ∷ get_or s.greatest 0 0 ∷ get_or s.least 1 0 ∷ get_or s.greatest 1 0 ∷ get_or s.least 2 0 ∷ get_or s.greatest 2 0
-    ∷ get_or s.least 3 0 ∷ get_or s.greatest 3 0 ∷ get_or s.least 4 0 ∷ get_or s.greatest 4 0 ∷ get_or s.least 5 0 ∷ get_or s.greatest 5 0
-    ∷ get_or s.least 6 0 ∷ get_or s.greatest 6 0 ∷ get_or s.least 7 0 ∷ get_or s.greatest 7 0 ∷ []
+    ∷ slice_index s.least 0 ∷ slice_index s.greatest 0 ∷ slice_index s.least 1
+    ∷ slice_index s.greatest 1 ∷ slice_index s.least 2 ∷ slice_index s.greatest 2
+    ∷ slice_index s.least 3 ∷ slice_index s.greatest 3 ∷ slice_index s.least 4
+    ∷ slice_index s.greatest 4 ∷ slice_index s.least 5 ∷ slice_index s.greatest 5
+    ∷ slice_index s.least 6 ∷ slice_index s.greatest 6 ∷ slice_index s.least 7
+    ∷ slice_index s.greatest 7 ∷ []

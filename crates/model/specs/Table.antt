@@ -1,6 +1,6 @@
 -- The checks of each call, in the paper's order ("The calls and how each declines"). Lines are numbered from 1; 0 means
 -- that no line is named.
-use Rattle.std.specs.Prelude.{ℕ, suc, ◌+◌, ◌*◌, Bool, List, [], ◌∷◌, leb, eqb, length, get_or}
+use Rattle.std.specs.Prelude.{ℕ, suc, ◌+◌, ◌*◌, Bool, List, [], ◌∷◌, nat_le, ◌==◌, length, slice_index_or}
 use Rattle.base_search.specs.Checks.{Checks, check, each, ◌then◌, Rule, table}
 use Rattle.text_reader.specs.Lines.{Line, no_line, is_record, starts_as}
 use Rattle.model.specs.Network.{link_count, signal_count, movement_count, step_count, tram_count, past_count, tram_line, signal_line, link_line, movement_line, timeline_line, step_line, signal}
@@ -8,7 +8,7 @@ use Rattle.model.specs.Rules.{valid_phases, valid_signal, valid_counts, valid_tr
 
 -- line i is there, is ended, and has the letter and k numbers
 unfoldable pub is_form : List Line → ℕ → ℕ → ℕ → Bool
-is_form text i letter k = is_record letter k (get_or text i no_line)
+is_form text i letter k = is_record letter k (slice_index_or text i no_line)
 
 -- a line that is a record: its form (1), then its values, refused by a number and an item
 abbrev pub record_checks : List Line → ℕ → ℕ → ℕ → ℕ → ℕ → Bool → Checks
@@ -52,7 +52,8 @@ module _ (network : List Line) where
   -- `G` line r: a line whose first seven fields are good gets 3 for a bad P before 1 for anything later in it
   unfoldable pub signal_checks : ℕ → Checks
   signal_checks r =
-      check 1 (suc (signal_line network r)) 0 (starts_as letter_g 6 (get_or network (signal_line network r) no_line))
+      check 1 (suc (signal_line network r)) 0
+      (starts_as letter_g 6 (slice_index_or network (signal_line network r) no_line))
       then check 3 (suc (signal_line network r)) (suc r) (valid_phases (signal network r))
       then check 1 (suc (signal_line network r)) 0 (is_form network (signal_line network r) letter_g (6 + 2 * (signal network r).phases))
       then check 3 (suc (signal_line network r)) (suc r) (valid_signal (signal network r))
@@ -94,12 +95,13 @@ module _ (network : List Line) where
       then each (link_count network) share_checks
       then each (past_count network) past_checks
       then each (step_count network) step_checks
-      then check 1 (suc (step_line network (step_count network))) 0 (eqb (length network) (step_line network (step_count network)))
+      then check 1 (suc (step_line network (step_count network))) 0
+      (length network == step_line network (step_count network))
       then check 30 0 0 (valid_past network)
 
   -- 8: the ledger has 2 × (K+1) × L numbers
   unfoldable pub ledger_checks : ℕ → Checks
-  ledger_checks size = check 8 0 0 (leb (2 * suc (step_count network) * link_count network) size)
+  ledger_checks size = check 8 0 0 (nat_le (2 * suc (step_count network) * link_count network) size)
 
 module _ (network plan : List Line) where
   -- the rules at step n, in their order: 10, 29 and 11 to 14 of the signals; 15 and 25 to 27, the limits of the volumes: admitted, let out, and the movements' two;
@@ -129,7 +131,9 @@ module _ (network plan : List Line) where
 
   -- the plan's lines, and nothing after them
   unfoldable pub plan_line_checks : Checks
-  plan_line_checks = each (step_count network) line_checks then check 9 (suc (step_count network)) 0 (eqb (length plan) (step_count network))
+  plan_line_checks =
+      each (step_count network) line_checks then check 9 (suc (step_count network)) 0
+      (length plan == step_count network)
 
   -- Check a plan, with a ledger of so many numbers
   unfoldable pub plan_checks : ℕ → Checks

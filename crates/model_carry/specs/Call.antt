@@ -1,6 +1,6 @@
 -- The call that carries on from boundary b: when it refuses, and what it writes. The plan is the list of the lines that
 -- its text stands for on the cut network (`planned_on`).
-use Rattle.std.specs.Prelude.{ℕ, ◌-◌, cond, List, [], ◌∷◌, ◌++◌, leb, length, Result}
+use Rattle.std.specs.Prelude.{ℕ, ◌-◌, if◌then◌else◌, List, [], ◌∷◌, ◌++◌, nat_le, length, Result}
 use Rattle.base_search.specs.Checks.{Checks, check, ◌then◌, verdict}
 use Rattle.text_reader.specs.Lines.{Line, lines}
 use Rattle.base_laws.specs.Test.{within}
@@ -31,7 +31,7 @@ module _ (network plan : List Line) (b : ℕ) where
   carry_checks ledger_size room =
       boundary_checks network b
       then plan_checks (cut network b) plan ledger_size
-      then check 32 0 0 (leb (length (carried_text network plan b)) room)
+      then check 32 0 0 (nat_le (length (carried_text network plan b)) room)
 
   -- the answer: how long the text is
   unfoldable pub carry_on : ℕ → ℕ → Result ℕ Refusal
@@ -39,7 +39,10 @@ module _ (network plan : List Line) (b : ℕ) where
 
   -- the ledger after the call
   unfoldable pub carry_ledger : List ℕ → List ℕ
-  carry_ledger old = cond (is_passed (verdict (boundary_checks network b))) (ledger_after (cut network b) plan old) old
+  carry_ledger old =
+      if is_passed (verdict (boundary_checks network b))
+      then ledger_after (cut network b) plan old
+      else old
 
   -- the buffer after it
   unfoldable pub carry_buffer : ℕ → List ℕ → List ℕ

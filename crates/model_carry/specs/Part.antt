@@ -2,7 +2,7 @@
 -- clipped to the steps a + 1 to c, dropped if emptied, and renumbered; its signals stand as they do at a; at its
 -- entries waits what waits at a; and each step that was run is a past step. The network cut to b steps is its part from
 -- 0 to b, which depends on no plan; the carried network is its part from b to K.
-use Rattle.std.specs.Prelude.{ℕ, suc, ◌+◌, ◌-◌, min, max, Bool, cond, List, [], ◌∷◌, leb, get_or}
+use Rattle.std.specs.Prelude.{ℕ, suc, ◌+◌, ◌-◌, min, max, Bool, if◌then◌else◌, List, [], ◌∷◌, nat_le, slice_index}
 use Rattle.text_reader.specs.Lines.{Line, number}
 use Rattle.model.specs.declared.Signal.{Signal}
 use Rattle.base_laws.specs.Sum.{joined}
@@ -13,20 +13,21 @@ use Rattle.model_text.specs.NetworkText.{NetworkNumbers, network_lines, network_
 
 -- a tram line has a step among a + 1 to c; what it asks there, with its steps counted from a
 unfoldable pub meets : ℕ → ℕ → Line → Bool
-meets a c tram = leb (max (number tram 2) (suc a)) (min (number tram 3) c)
+meets a c tram = nat_le (max (number tram 2) (suc a)) (min (number tram 3) c)
 
 unfoldable pub clip : ℕ → ℕ → Line → List ℕ
 clip a c tram = number tram 0 ∷ number tram 1 ∷ (max (number tram 2) (suc a) - a) ∷ (min (number tram 3) c - a) ∷ []
 
 unfoldable pub clipped : ℕ → ℕ → List Line → List (List ℕ)
 clipped a c [] = []
-clipped a c (tram ∷ more) = cond (meets a c tram) (clip a c tram ∷ clipped a c more) (clipped a c more)
+clipped a c (tram ∷ more) =
+    if meets a c tram then clip a c tram ∷ clipped a c more else clipped a c more
 
 -- the numbers of the `G` line of a signal
 unfoldable pub signal_numbers : Signal → List ℕ
 signal_numbers s =
     s.least_cycle ∷ s.greatest_cycle ∷ s.phases ∷ s.shown ∷ s.shown_for ∷ s.cycle_clock
-    ∷ joined s.phases (λ k. get_or s.least k 0 ∷ get_or s.greatest k 0 ∷ [])
+    ∷ joined s.phases (λ k. slice_index s.least k ∷ slice_index s.greatest k ∷ [])
 
 module _ (network plan : List Line) (a c : ℕ) where
   -- the `Q` line of link i, with what waits at a; and the `M` line of movement j as it was

@@ -1,5 +1,5 @@
 -- The repeated cycle of a sheet with offsets, and the plan that is written for it.
-use Rattle.std.specs.Prelude.{ℕ, zero, suc, ◌+◌, ◌*◌, ◌-◌, ◌%◌, ◌^◌, ◌≤◌, ◌<◌, ◌≡◌, Bool, cond, not, List, leb, ltb, eqb, length}
+use Rattle.std.specs.Prelude.{ℕ, zero, suc, ◌+◌, ◌*◌, ◌-◌, ◌%◌, ◌^◌, ◌≤◌, ◌<◌, ◌≡◌, Bool, if◌then◌else◌, not, List, nat_le, nat_lt, ◌==◌, length}
 use Rattle.base_search.specs.Checks.{Checks, check, each, ◌then◌}
 use Rattle.text_reader.specs.Lines.{Line}
 use Rattle.text_writer.specs.Records.{record_texts, record_lines}
@@ -15,7 +15,7 @@ module _ (value : ℕ → ℕ) where
   -- of the phases 1 to k the last that has begun at place x of the cycle
   unfoldable pub phase_from : ℕ → ℕ → ℕ
   phase_from zero x = 0
-  phase_from (suc k) x = cond (leb (sum k value) x) (suc k) (phase_from k x)
+  phase_from (suc k) x = if nat_le (sum k value) x then suc k else phase_from k x
 
   module _ (P : ℕ) where
     -- the seconds of the cycle that have run at time t
@@ -28,11 +28,12 @@ module _ (value : ℕ → ℕ) where
 
     -- the run that shows at time t does not end inside so many seconds
     unfoldable pub fits_at : ℕ → ℕ → Bool
-    fits_at t seconds = leb (place_at t + seconds) (sum (phase_at t) value)
+    fits_at t seconds = nat_le (place_at t + seconds) (sum (phase_at t) value)
 
 -- signal r has no `T` lines
 unfoldable pub has_no_tram : List Line → ℕ → Bool
-has_no_tram network r = every (tram_count network) (λ k. not (eqb (entry network (tram_line network k) 0) (suc r)))
+has_no_tram network r =
+    every (tram_count network) (λ k. not (entry network (tram_line network k) 0 == suc r))
 
 module _ (network sheet : List Line) where
   -- the seconds of the cycle of signal r that have run at time t, the phase that it shows then, and where step n starts
@@ -59,7 +60,8 @@ module _ (network sheet : List Line) where
   -- the numbers of the `P` line of step n: each mask is the bit of its phase, every volume is 0
   unfoldable pub sheet_numbers : ℕ → List ℕ
   sheet_numbers n =
-      list (signal_count network + (2 * link_count network + movement_count network)) (λ k. only (ltb k (signal_count network)) (2 ^ (sheet_phase n k - 1)))
+      list (signal_count network + (2 * link_count network + movement_count network))
+      (λ k. only (nat_lt k (signal_count network)) (2 ^ (sheet_phase n k - 1)))
 
   -- the lines and the text of the plan
   unfoldable pub sheet_plan : List Line
@@ -83,4 +85,5 @@ module _ (network sheet : List Line) where
 
   -- the checks of the call that writes, into so many bytes
   unfoldable pub write_checks : ℕ → Checks
-  write_checks size = network_checks network then sheet_checks network sheet 1 then boundary_checks then check 24 0 0 (leb (length sheet_text) size)
+  write_checks size =
+      network_checks network then sheet_checks network sheet 1 then boundary_checks then check 24 0 0 (nat_le (length sheet_text) size)

@@ -1,6 +1,6 @@
 -- The call that splits (T-14): when it refuses, and what it writes. The plan is the list of the lines that its text
 -- stands for (`plan_of`).
-use Rattle.std.specs.Prelude.{ℕ, suc, ◌+◌, ◌*◌, ◌-◌, ◌^◌, ◌/◌, ◌%◌, Bool, not, List, [], ◌∷◌, ◌++◌, leb, ltb, eqb, length, Result, Ok, Err}
+use Rattle.std.specs.Prelude.{ℕ, suc, ◌+◌, ◌*◌, ◌-◌, ◌^◌, ◌/◌, ◌%◌, Bool, not, List, [], ◌∷◌, ◌++◌, nat_le, nat_lt, ◌==◌, length, Result, Ok, Err}
 use Rattle.base_search.specs.Checks.{Checks, check, each, ◌then◌, verdict, Verdict}
 use Rattle.text_reader.specs.Lines.{Line}
 use Rattle.text_reader.specs.Reading.{over}
@@ -15,34 +15,40 @@ use Rattle.base_search.specs.declared.Refusal.{Refusal}
 
 -- the set of links in the first half, as a number: link i, from 0, has the bit of 2 ^ i
 unfoldable pub in_set : ℕ → ℕ → Bool
-in_set set i = eqb (set / 2 ^ i % 2) 1
+in_set set i = set / 2 ^ i % 2 == 1
 
 module _ (network : List Line) (first : ℕ → Bool) where
   -- border movement j leaves a link without a signal, with exit rate 0 and no other movement from it, and enters a link without demand or second border
   unfoldable pub right_kind : ℕ → Bool
   right_kind j =
-      eqb (signal_of network (from_link network j - 1)) 0 and eqb (exit_rate network (from_link network j - 1)) 0
-      and every (movement_count network) (λ k. eqb k j or not (eqb (from_link network k) (from_link network j)))
-      and every (step_count network) (λ n. eqb (demand network n (to_link network j - 1)) 0)
-      and every (movement_count network) (λ k. eqb k j or not (crosses network first k and eqb (to_link network k) (to_link network j)))
+      signal_of network (from_link network j - 1) == 0
+      and exit_rate network (from_link network j - 1) == 0
+      and every (movement_count network)
+      (λ k. k == j or not (from_link network k == from_link network j))
+      and every (step_count network) (λ n. demand network n (to_link network j - 1) == 0)
+      and every (movement_count network)
+      (λ k. k == j or not (crosses network first k and to_link network k == to_link network j))
 
   -- 40: no `H` line, no waiting volume, links in both halves, and every border movement of the right kind
   unfoldable pub can_split : Bool
   can_split =
-      eqb (past_count network) 0 and every (link_count network) (λ i. eqb (waiting_at_start network i) 0)
-      and leb 1 (rank first (link_count network)) and leb 1 (rank (λ i. not (first i)) (link_count network))
+      past_count network == 0 and every (link_count network) (λ i. waiting_at_start network i == 0)
+      and nat_le 1 (rank first (link_count network))
+      and nat_le 1 (rank (λ i. not (first i)) (link_count network))
       and every (movement_count network) (λ j. not (crosses network first j) or right_kind j)
 
   -- 41: no signal has links in both halves
   unfoldable pub parts_signals : Bool
   parts_signals =
-      every (link_count network) (λ i. not (first i) or eqb (signal_of network i) 0 or not (in_second network first (signal_of network i - 1)))
+      every (link_count network)
+      (λ i. not (first i) or signal_of network i == 0 or not
+      (in_second network first (signal_of network i - 1)))
 
 -- the plan gets 9 only: the form of its lines, and nothing after them
 unfoldable pub form_checks : List Line → List Line → Checks
 form_checks network plan =
     each (step_count network) (λ n. check 9 (suc n) 0 (is_form plan n letter_p (signal_count network + (2 * link_count network + movement_count network))))
-    then check 9 (suc (step_count network)) 0 (eqb (length plan) (step_count network))
+    then check 9 (suc (step_count network)) 0 (length plan == step_count network)
 
 -- the numbers with which the call refuses
 abbrev pub split_numbers : List ℕ
@@ -53,7 +59,7 @@ module _ (network plan : List Line) (set : ℕ) where
   unfoldable pub part_checks : Checks
   part_checks =
       network_checks network
-      then check 40 0 0 (ltb set (2 ^ link_count network) and can_split network (in_set set))
+      then check 40 0 0 (nat_lt set (2 ^ link_count network) and can_split network (in_set set))
       then check 41 0 0 (parts_signals network (in_set set))
       then form_checks network plan
 
@@ -79,8 +85,8 @@ module _ (network plan : List Line) (set : ℕ) where
   split_checks room =
       part_checks
       then check 42 0 0
-      (leb lengths.network_1 room.network_1 and leb lengths.plan_1 room.plan_1 and leb lengths.network_2 room.network_2
-      and leb lengths.plan_2 room.plan_2)
+      (nat_le lengths.network_1 room.network_1 and nat_le lengths.plan_1 room.plan_1 and nat_le lengths.network_2 room.network_2
+      and nat_le lengths.plan_2 room.plan_2)
 
   -- the answer: how long the texts are
   unfoldable pub split_answer : Verdict → Result Lengths Refusal

@@ -1,5 +1,5 @@
 -- A network and a plan in two halves, by the set of links in the first (T-14). Links, signals, movements and steps are counted from 0.
-use Rattle.std.specs.Prelude.{ℕ, suc, ◌+◌, ◌*◌, ◌-◌, min, Bool, not, cond, List, [], ◌∷◌, ◌++◌, eqb, get_or}
+use Rattle.std.specs.Prelude.{ℕ, suc, ◌+◌, ◌*◌, ◌-◌, min, Bool, not, if◌then◌else◌, List, [], ◌∷◌, ◌++◌, ◌==◌, slice_index_or}
 use Rattle.text_reader.specs.Field.{largest}
 use Rattle.text_reader.specs.Lines.{Line, number}
 use Rattle.text_writer.specs.Records.{record_texts, record_lines}
@@ -27,7 +27,7 @@ unfoldable pub link_number : Half → ℕ → ℕ
 link_number h i = suc (rank h.has-link (i - 1))
 
 unfoldable pub signal_number : Half → ℕ → ℕ
-signal_number h r = cond (eqb r 0) 0 (suc (rank h.has-signal (r - 1)))
+signal_number h r = if r == 0 then 0 else suc (rank h.has-signal (r - 1))
 
 module _ (network : List Line) (h : Half) where
   -- a movement between links of the half; and `T` line k, which follows its signal
@@ -51,18 +51,24 @@ module _ (network : List Line) (h : Half) where
 module _ (network : List Line) (first : ℕ → Bool) where
   -- a border movement goes from a link of one half to a link of the other
   unfoldable pub crosses : ℕ → Bool
-  crosses j = cond (first (from_link network j - 1)) (not (first (to_link network j - 1))) (first (to_link network j - 1))
+  crosses j =
+      if first (from_link network j - 1)
+      then not (first (to_link network j - 1))
+      else first (to_link network j - 1)
 
   -- the sum over the border movements into, and from, link i
   unfoldable pub crossing_into : (ℕ → ℕ) → ℕ → ℕ
-  crossing_into f i = sum (movement_count network) (λ j. only (crosses j and eqb (to_link network j) (suc i)) (f j))
+  crossing_into f i =
+      sum (movement_count network) (λ j. only (crosses j and to_link network j == suc i) (f j))
 
   unfoldable pub crossing_from : (ℕ → ℕ) → ℕ → ℕ
-  crossing_from f i = sum (movement_count network) (λ j. only (crosses j and eqb (from_link network j) (suc i)) (f j))
+  crossing_from f i =
+      sum (movement_count network) (λ j. only (crosses j and from_link network j == suc i) (f j))
 
   -- signal r has a link in the second half
   unfoldable pub in_second : ℕ → Bool
-  in_second r = not (every (link_count network) (λ i. first i or not (eqb (signal_of network i) (suc r))))
+  in_second r =
+      not (every (link_count network) (λ i. first i or not (signal_of network i == suc r)))
 
   -- the two halves: a signal without links goes to the first
   unfoldable pub first_half : Half
@@ -102,9 +108,14 @@ module _ (network : List Line) (first : ℕ → Bool) where
           steps = step_count network;
           past = 0;
           trams = picked (tram_count network) (follows network h) (half_tram_numbers network h);
-          signal = λ r. get_or (picked (signal_count network) h.has-signal (signal_numbers network h)) r [];
-          link = λ i. get_or (picked (link_count network) h.has-link link_numbers) i [];
-          movement = λ j. get_or (picked (movement_count network) (inside network h) (movement_numbers network h)) j [];
+          signal =
+              λ r. slice_index_or
+              (picked (signal_count network) h.has-signal (signal_numbers network h)) r [];
+          link = λ i. slice_index_or (picked (link_count network) h.has-link link_numbers) i [];
+          movement =
+              λ j. slice_index_or
+              (picked (movement_count network) (inside network h)
+              (movement_numbers network h)) j [];
           past-step = λ m. [];
           step = step_numbers;
         }

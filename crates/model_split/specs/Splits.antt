@@ -1,5 +1,5 @@
 -- The theorem of T-14.
-use Rattle.std.specs.Prelude.{ℕ, suc, ◌+◌, ◌*◌, ◌-◌, ◌≤◌, ◌<◌, ◌≡◌, ◌↔◌, Bool, true, not, cond, List, length, get_or, take, Result, Ok, Err}
+use Rattle.std.specs.Prelude.{ℕ, suc, ◌+◌, ◌*◌, ◌-◌, ◌≤◌, ◌<◌, ◌≡◌, ◌↔◌, Bool, true, not, if◌then◌else◌, List, length, slice_index, take, Result, Ok, Err}
 use Rattle.base_search.specs.declared.Refusal.{Refusal}
 use Rattle.base_search.specs.Checks.{verdict}
 use Rattle.base_search.specs.Numbers.{CanArise}
@@ -59,11 +59,15 @@ module _ (whole : Texts) (set : ℕ) where
   -- what the written plans let out of link i in step n, and admit on it: in the half that has the link
   unfoldable pub written_let_out : ℕ → ℕ → ℕ
   written_let_out n i =
-      cond (in_set set i) (let_out (network_of first) (plan_for first) n (number₁ i)) (let_out (network_of second) (plan_for second) n (number₂ i))
+      if in_set set i
+      then let_out (network_of first) (plan_for first) n (number₁ i)
+      else let_out (network_of second) (plan_for second) n (number₂ i)
 
   unfoldable pub written_admitted : ℕ → ℕ → ℕ
   written_admitted n i =
-      cond (in_set set i) (admitted (network_of first) (plan_for first) n (number₁ i)) (admitted (network_of second) (plan_for second) n (number₂ i))
+      if in_set set i
+      then admitted (network_of first) (plan_for first) n (number₁ i)
+      else admitted (network_of second) (plan_for second) n (number₂ i)
 
   abbrev pub is_border : ℕ → Bool
   is_border j = crosses (network_of whole) (in_set set) j
@@ -100,11 +104,15 @@ pub record HalvesAccepted (whole : Texts) (set size₁ size₂ : ℕ) : Type 0 w
 pub record AddUp (whole : Texts) (set : ℕ) : Type 0 where
   -- the rows of a half are its links' columns of the whole's ..
   pub first_rows : (n i : ℕ) → n ≤ step_count (network_of whole) → i < link_count (network_of whole) → in_set set i ≡ true
-      → (get_or (ledger_row (first whole set) n) (2 * number₁ whole set i) 0 ≡ get_or (ledger_row whole n) (2 * i) 0)
-      × (get_or (ledger_row (first whole set) n) (2 * number₁ whole set i + 1) 0 ≡ get_or (ledger_row whole n) (2 * i + 1) 0)
+      → (slice_index (ledger_row (first whole set) n) (2 * number₁ whole set i) ≡ slice_index
+      (ledger_row whole n) (2 * i))
+      × (slice_index (ledger_row (first whole set) n) (2 * number₁ whole set i + 1) ≡ slice_index
+      (ledger_row whole n) (2 * i + 1))
   pub second-rows : (n i : ℕ) → n ≤ step_count (network_of whole) → i < link_count (network_of whole) → not (in_set set i) ≡ true
-      → (get_or (ledger_row (second whole set) n) (2 * number₂ whole set i) 0 ≡ get_or (ledger_row whole n) (2 * i) 0)
-      × (get_or (ledger_row (second whole set) n) (2 * number₂ whole set i + 1) 0 ≡ get_or (ledger_row whole n) (2 * i + 1) 0)
+      → (slice_index (ledger_row (second whole set) n) (2 * number₂ whole set i) ≡ slice_index
+      (ledger_row whole n) (2 * i))
+      × (slice_index (ledger_row (second whole set) n) (2 * number₂ whole set i + 1) ≡ slice_index
+      (ledger_row whole n) (2 * i + 1))
   -- .. admitted and let out add up with the border volumes left out ..
   pub admissions : (totals_of (first whole set)).admitted + (totals_of (second whole set)).admitted ≡ (totals_of whole).admitted + border_volume whole set
   pub exits : (totals_of (first whole set)).let_out + (totals_of (second whole set)).let_out ≡ (totals_of whole).let_out + border_volume whole set

@@ -1,5 +1,5 @@
 -- A call that writes a text: its answer, and the buffer after it.
-use Rattle.std.specs.Prelude.{ℕ, ◌≡◌, List, leb, length, Result, Ok, Err}
+use Rattle.std.specs.Prelude.{ℕ, ◌≡◌, List, nat_le, length, Result, Ok, Err}
 use Rattle.base_search.specs.Checks.{checked, Verdict}
 use Rattle.text_reader.specs.Reading.{over}
 use Rattle.base_search.specs.declared.Refusal.{Refusal}
@@ -15,7 +15,7 @@ bytes_after text (Err r) old = old
 
 -- the last check: a buffer that is too short is refused with this number
 abbrev pub room_verdict : ℕ → List ℕ → List ℕ → Verdict
-room_verdict number text old = checked (leb (length text) (length old)) number 0 0
+room_verdict number text old = checked (nat_le (length text) (length old)) number 0 0
 
 -- a verdict was returned of a text, and the buffer is as it says
 pub record Told (text : List ℕ) (v : Verdict) (old : List ℕ) (answer : Result ℕ Refusal) (new : List ℕ) : Type 0 where

@@ -1,5 +1,5 @@
 -- A network by its numbers, as lines and as the text that is written of them.
-use Rattle.std.specs.Prelude.{ℕ, List, [], ◌∷◌, ◌++◌, length, get_or}
+use Rattle.std.specs.Prelude.{ℕ, List, [], ◌∷◌, ◌++◌, length, slice_index_or}
 use Rattle.text_reader.specs.Lines.{Line}
 use Rattle.text_writer.specs.Records.{record_text, record_texts, record_line, record_lines}
 use Rattle.model.specs.Table.{letter_n, letter_t, letter_g, letter_q, letter_m, letter_h, letter_s}
@@ -25,7 +25,7 @@ module _ (numbers : NetworkNumbers) where
       numbers.links ∷ numbers.signals ∷ numbers.movements ∷ numbers.steps ∷ length numbers.trams ∷ numbers.past ∷ []
 
   abbrev pub tram_numbers : ℕ → List ℕ
-  tram_numbers k = get_or numbers.trams k []
+  tram_numbers k = slice_index_or numbers.trams k []
 
   unfoldable pub network_lines : List Line
   network_lines =

@@ -1,5 +1,5 @@
 -- What the reading of a whole network asks and holds.
-use Rattle.std.specs.Prelude.{ℕ, suc, ◌≤◌, ◌<◌, ◌≡◌, List, Result, Ok, Err, eqb, length}
+use Rattle.std.specs.Prelude.{ℕ, suc, ◌≤◌, ◌<◌, ◌≡◌, List, Result, Ok, Err, ◌==◌, length}
 use Rattle.base_search.specs.declared.Refusal.{Refusal}
 use Rattle.base_search.specs.Checks.{Checks, check, each, ◌then◌, Hold, verdict}
 use Rattle.text_reader.specs.Lines.{Line, lines}
@@ -31,7 +31,9 @@ pub record FirstAsked (text : List ℕ) (reading : Reading) (signals : List Sign
 
 -- 1 where a line is surplus
 unfoldable pub end_checks : List Line → Checks
-end_checks network = check 1 (suc (step_line network (step_count network))) 0 (eqb (length network) (step_line network (step_count network)))
+end_checks network =
+    check 1 (suc (step_line network (step_count network))) 0
+    (length network == step_line network (step_count network))
 
 -- the text after the `S` lines
 pub record EndAsked (text : List ℕ) (reading : Reading) : Type 0 where

@@ -1,5 +1,5 @@
 -- What is read of the `H` lines, and refusal 30 by the program's tables.
-use Rattle.std.specs.Prelude.{ℕ, ◌+◌, ◌*◌, ◌≤◌, ◌<◌, ◌≡◌, Bool, List, leb, length, get_or}
+use Rattle.std.specs.Prelude.{ℕ, ◌+◌, ◌*◌, ◌≤◌, ◌<◌, ◌≡◌, Bool, List, nat_le, length, slice_index}
 use Rattle.base_search.specs.Checks.{Checks, check}
 use Rattle.text_reader.specs.Lines.{Line, lines}
 use Rattle.text_reader.specs.Reading.{Starts}
@@ -36,9 +36,12 @@ module _ (tables : NetworkTables) (demands row : List ℕ) (arrivals : List Arri
       let links = tables.links.now in
       let times = tables.times.now in
       let a = arrival_at arrivals i in
-      leb (left_in row i * seconds_in times a.step) (scaled_in a.start a.stop (seconds_in times a.step) (elapsed_in times a.step counts.past (travel_time_in links i)))
-      and leb (entered_in row i) (capacity_in links i + left_in row i)
-      and leb (entered_in row i + waiting_at_start_in links i + get_or demands i 0) (72_000_000 + 13_800_000 * counts.past + standing_in links i)
+      nat_le (left_in row i * seconds_in times a.step)
+      (scaled_in a.start a.stop (seconds_in times a.step)
+      (elapsed_in times a.step counts.past (travel_time_in links i)))
+      and nat_le (entered_in row i) (capacity_in links i + left_in row i)
+      and nat_le (entered_in row i + waiting_at_start_in links i + slice_index demands i)
+      (72_000_000 + 13_800_000 * counts.past + standing_in links i)
 
   unfoldable pub valid_links_in : ℕ → Bool
   valid_links_in n = every n valid_past_in
@@ -68,7 +71,9 @@ pub record EndAsked (tables : NetworkTables) (demands row : List ℕ) (arrivals 
   pub told : tables.reading.timed ≡ valid_lengths (lines tables.text.now) (past_count (lines tables.text.now))
   pub timed-all : TimedTo (lines tables.text.now) tables.reading.timed (past_count (lines tables.text.now) + step_count (lines tables.text.now)) tables.times.now
   pub demand-size : length demands ≡ max_links
-  pub demanded : (i : ℕ) → i < link_count (lines tables.text.now) → get_or demands i 0 ≡ sum (step_count (lines tables.text.now)) (λ n. demand (lines tables.text.now) n i)
+  pub demanded : (i : ℕ) → i < link_count (lines tables.text.now)
+      → slice_index demands i ≡ sum (step_count (lines tables.text.now))
+      (λ n. demand (lines tables.text.now) n i)
   pub row-room : length row ≡ row_size
   pub arrival-room : length arrivals ≡ max_links
 

@@ -1,5 +1,5 @@
 -- What is read of the `N` line.
-use Rattle.std.specs.Prelude.{ℕ, Bool, List, leb}
+use Rattle.std.specs.Prelude.{ℕ, Bool, List, nat_le}
 use Rattle.text_reader.specs.Lines.{lines}
 use Rattle.text_reader.specs.Reading.{Starts}
 use Rattle.base_laws.specs.Test.{◌and◌, within}
@@ -11,8 +11,11 @@ use Rattle.network_tables.specs.Tables.{CountsHold}
 -- 2: L 1 to 24, R 0 to 8, M 0 to 64, K 1 to 120, 0 to 16 `T` lines, 0 to 120 `H` lines
 unfoldable pub valid_counts_in : Counts → Bool
 valid_counts_in counts =
-    within 1 counts.links max_links and leb counts.signals max_signals and leb counts.movements max_movements and within 1 counts.steps max_steps
-    and leb counts.trams max_trams and leb counts.past max_past
+    within 1 counts.links max_links
+    and nat_le counts.signals max_signals
+    and nat_le counts.movements max_movements
+    and within 1 counts.steps max_steps
+    and nat_le counts.trams max_trams and nat_le counts.past max_past
 
 -- what is held where the `N` line passes: its counts, and the place of the line after it
 pub record CountsHeld (text : List ℕ) (reading : Reading) : Type 0 where

@@ -1,5 +1,5 @@
 -- Lines of one letter that follow each other in a network text, and how far they are read.
-use Rattle.std.specs.Prelude.{ℕ, suc, ◌+◌, ◌-◌, ◌≤◌, ◌<◌, ◌≡◌, Bool, true, false, List, length, get_or, Result, Ok, Err}
+use Rattle.std.specs.Prelude.{ℕ, suc, ◌+◌, ◌-◌, ◌≤◌, ◌<◌, ◌≡◌, Bool, true, false, List, length, slice_index_or, Result, Ok, Err}
 use Rattle.std.specs.Borrow.{Bor}
 use Rattle.base_search.specs.declared.Refusal.{Refusal}
 use Rattle.base_search.specs.Checks.{Checks, each, first_from, verdict, Verdict, refusal}
@@ -41,7 +41,8 @@ fields text line width = list width (entry text line)
 module _ {T : Type 0} (Gives : List ℕ → T → Type 0) where
   -- the first i items of a table are those of the lines
   pub record RowsTo (text : List Line) (b : Block) (width i : ℕ) (table : List T) : Type 0 where
-    pub given : (j : ℕ) → j < i → (none : T) → Gives (fields text (b.place j) width) (get_or table j none)
+    pub given : (j : ℕ) → j < i → (none : T)
+        → Gives (fields text (b.place j) width) (slice_index_or table j none)
 
   -- the first i lines are read into a table of this size
   pub record TableTo (text : List ℕ) (b : Block) (width size at i : ℕ) (table : List T) : Type 0 where

@@ -1,6 +1,6 @@
 -- The numbers of the program's tables by their names in the paper. Links, movements and signals are counted from 0; a link's signal and a movement's links are
 -- named from 1.
-use Rattle.std.specs.Prelude.{ℕ, suc, cond, eqb, ◌+◌, ◌*◌, ◌≤◌, ◌<◌, List, [], ◌∷◌, length, get_or}
+use Rattle.std.specs.Prelude.{ℕ, suc, if◌then◌else◌, ◌==◌, ◌+◌, ◌*◌, ◌≤◌, ◌<◌, List, [], ◌∷◌, length, slice_index, slice_index_or}
 use Rattle.model.specs.declared.Signal.{Signal}
 use Rattle.model.specs.Network.{max_links, max_signals, max_movements, max_steps}
 use Rattle.network_tables.specs.declared.Counts.{Counts}
@@ -85,16 +85,16 @@ no_signal =
     }
 
 abbrev pub tram_at : List Tram → ℕ → Tram
-tram_at trams k = get_or trams k (tram_by (λ k. 0))
+tram_at trams k = slice_index_or trams k (tram_by (λ k. 0))
 
 abbrev pub signal_at : List Signal → ℕ → Signal
-signal_at signals r = get_or signals r no_signal
+signal_at signals r = slice_index_or signals r no_signal
 
 abbrev pub link_at : List Link → ℕ → Link
-link_at links i = get_or links i (link_by (λ k. 0))
+link_at links i = slice_index_or links i (link_by (λ k. 0))
 
 abbrev pub movement_at : List Movement → ℕ → Movement
-movement_at movements j = get_or movements j (movement_by (λ k. 0))
+movement_at movements j = slice_index_or movements j (movement_by (λ k. 0))
 
 -- link i, by the table of the `Q` lines
 abbrev pub capacity_in : List Link → ℕ → ℕ
@@ -120,7 +120,8 @@ waiting_at_start_in links i = (link_at links i).waiting
 
 -- movement j, by the table of the `M` lines: the link that it leaves (side 0) or enters (side 1)
 abbrev pub link_in : List Movement → ℕ → ℕ → ℕ
-link_in movements side j = cond (eqb side 0) (movement_at movements j).from (movement_at movements j).to
+link_in movements side j =
+    if side == 0 then (movement_at movements j).from else (movement_at movements j).to
 
 abbrev pub rate_in : List Movement → ℕ → ℕ
 rate_in movements j = (movement_at movements j).rate
@@ -130,41 +131,41 @@ share_in movements j = (movement_at movements j).share
 
 -- the numbers of an `H` line: what entered link i in its step, and what left it; its length stands first, as in an `S` line
 abbrev pub past_entries_in : List ℕ → ℕ → ℕ
-past_entries_in past i = get_or past (1 + 2 * i) 0
+past_entries_in past i = slice_index past (1 + 2 * i)
 
 abbrev pub past_exits_in : List ℕ → ℕ → ℕ
-past_exits_in past i = get_or past (2 + 2 * i) 0
+past_exits_in past i = slice_index past (2 + 2 * i)
 
 -- the numbers of an `S` line: its length, and the demand of link i
 abbrev pub length_in : List ℕ → ℕ
-length_in step = get_or step 0 0
+length_in step = slice_index step 0
 
 abbrev pub demand_in : List ℕ → ℕ → ℕ
-demand_in step i = get_or step (1 + i) 0
+demand_in step i = slice_index step (1 + i)
 
 -- the numbers of a `P` line
 abbrev pub admitted_in : Counts → List ℕ → ℕ → ℕ
-admitted_in counts line i = get_or line (admitted_place counts i) 0
+admitted_in counts line i = slice_index line (admitted_place counts i)
 
 abbrev pub let_out_in : Counts → List ℕ → ℕ → ℕ
-let_out_in counts line i = get_or line (let_out_place counts i) 0
+let_out_in counts line i = slice_index line (let_out_place counts i)
 
 abbrev pub moved_in : Counts → List ℕ → ℕ → ℕ
-moved_in counts line j = get_or line (moved_place counts j) 0
+moved_in counts line j = slice_index line (moved_place counts j)
 
 -- entered and left of link i in a row of the ledger
 abbrev pub entered_in : List ℕ → ℕ → ℕ
-entered_in row i = get_or row (2 * i) 0
+entered_in row i = slice_index row (2 * i)
 
 abbrev pub left_in : List ℕ → ℕ → ℕ
-left_in row i = get_or row (2 * i + 1) 0
+left_in row i = slice_index row (2 * i + 1)
 
 -- entered and left of link i at boundary n in a ledger of so many links
 abbrev pub entered_at : List ℕ → ℕ → ℕ → ℕ → ℕ
-entered_at ledger count n i = get_or ledger (2 * n * count + 2 * i) 0
+entered_at ledger count n i = slice_index ledger (2 * n * count + 2 * i)
 
 abbrev pub left_at : List ℕ → ℕ → ℕ → ℕ → ℕ
-left_at ledger count n i = get_or ledger (2 * n * count + 2 * i + 1) 0
+left_at ledger count n i = slice_index ledger (2 * n * count + 2 * i + 1)
 
 -- a ledger has the rows up to boundary n, of so many links, and i is one of these
 pub record RowHeld (ledger : List ℕ) (count n i : ℕ) : Type 0 where

@@ -1,6 +1,6 @@
 -- What the program's tables hold of a network text while it is judged. These definitions are not the paper's: the
 -- contracts between the crates use them.
-use Rattle.std.specs.Prelude.{ℕ, ◌+◌, ◌*◌, ◌≤◌, ◌<◌, ◌≡◌, List, leb, length, get_or, Result, Ok, Err}
+use Rattle.std.specs.Prelude.{ℕ, ◌+◌, ◌*◌, ◌≤◌, ◌<◌, ◌≡◌, List, nat_le, length, slice_index, Result, Ok, Err}
 use Rattle.base_search.specs.Checks.{Checks, verdict, Verdict}
 use Rattle.text_reader.specs.Lines.{Line, lines}
 use Rattle.text_reader.specs.Reading.{Starts}
@@ -70,7 +70,10 @@ pub record FewPhases (network : List Line) (signals : List Signal) : Type 0 wher
 -- the shortest of all greatest times: a step of x seconds is at most every phase's greatest time exactly if it is at most this
 pub record Shortest (network : List Line) (shortest : ℕ) : Type 0 where
   pub least : (x : ℕ) → x ≤ 60
-      → leb x shortest ≡ every (signal_count network) (λ r. every (signal network r).phases (λ k. leb x (get_or (signal network r).greatest k 0)))
+      → nat_le x shortest
+      ≡ every (signal_count network)
+      (λ r. every (signal network r).phases
+      (λ k. nat_le x (slice_index (signal network r).greatest k)))
 
 -- a network text whose `G` lines have passed is read up to a line
 pub record Reached (text : List ℕ) (line : ℕ) (reading : Reading) : Type 0 where
@@ -95,19 +98,23 @@ pub record MovementTable (network : List Line) (movements : List Movement) : Typ
 -- the time of each boundary of the timeline
 pub record TimeTable (network : List Line) (times : List ℕ) : Type 0 where
   pub size : length times ≡ time_table_size
-  pub holds : (m : ℕ) → m ≤ on_timeline network (step_count network) → get_or times m 0 ≡ timeline_time network m
+  pub holds : (m : ℕ) → m ≤ on_timeline network (step_count network)
+      → slice_index times m ≡ timeline_time network m
 
 -- the numbers of the `H` line of step m of the timeline
 pub record PastNumbers (network : List Line) (m : ℕ) (past : List ℕ) : Type 0 where
   pub size : length past ≡ past_size
-  pub holds : (k : ℕ) → k < 1 + 2 * link_count network → get_or past k 0 ≡ entry network (timeline_line network m) k
+  pub holds : (k : ℕ) → k < 1 + 2 * link_count network
+      → slice_index past k ≡ entry network (timeline_line network m) k
 
 -- the numbers of the `S` line of step n
 pub record StepNumbers (network : List Line) (n : ℕ) (step : List ℕ) : Type 0 where
   pub size : length step ≡ step_size
-  pub holds : (k : ℕ) → k < 1 + link_count network → get_or step k 0 ≡ entry network (step_line network n) k
+  pub holds : (k : ℕ) → k < 1 + link_count network
+      → slice_index step k ≡ entry network (step_line network n) k
 
 -- the numbers of the `P` line of step n
 pub record PlanNumbers (network plan : List Line) (n : ℕ) (line : List ℕ) : Type 0 where
   pub size : length line ≡ line_size
-  pub holds : (k : ℕ) → k < signal_count network + (2 * link_count network + movement_count network) → get_or line k 0 ≡ entry plan n k
+  pub holds : (k : ℕ) → k < signal_count network + (2 * link_count network + movement_count network)
+      → slice_index line k ≡ entry plan n k

@@ -2,7 +2,7 @@
 // and steps are counted from 0 here.
 #![tactic(auto)]
 
-ghost use Rattle.std.specs.Prelude.{◌≡◌, ◌+◌, ◌*◌, ◌<◌, ◌≤◌, true, length, get_or};
+ghost use Rattle.std.specs.Prelude.{◌≡◌, ◌+◌, ◌*◌, ◌<◌, ◌≤◌, ◌^◌, true, length, get_or};
 ghost use Rattle.model.specs.Signals.{signal_fields};
 ghost use Rattle.model.specs.Network.{max_links, max_signals, max_movements, max_steps, max_trams, max_past};
 ghost use Rattle.network_tables.specs.Places.{tram_line_in, signal_line_in, link_line_in, movement_line_in, timeline_line_in, step_line_in, plan_width, Few};
@@ -344,7 +344,7 @@ pub fn read_rows<
 ) -> Result<usize, Refusal>
     requires fields { W ≤ signal_fields }
     requires room { count ≤ length table.old }
-    requires few { first + count < 4294967296 }
+    requires few { first + count < 2 ^ 32 }
     requires judges { Judges (F.pre judge) count (length table.old) }
     ensures { (b : Block) → RowsJudged T.from_gives (lines text.now) b letter W first count (length table.old) (F.post judge) → Starts text.now at (b.place 0)
         → RowsHeld T.from_gives text.now b W (length table.old) result table.new }

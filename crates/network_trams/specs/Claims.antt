@@ -1,5 +1,5 @@
 -- What trams ask of the signals in a step, by the table of the `T` lines.
-use Rattle.std.specs.Prelude.{ℕ, zero, suc, ◌-◌, ◌≤◌, ◌<◌, ◌≡◌, Bool, true, ◌&&◌, cond, List, leb, eqb, length, get_or, set}
+use Rattle.std.specs.Prelude.{ℕ, zero, suc, ◌-◌, ◌≤◌, ◌<◌, ◌≡◌, Bool, true, ◌&&◌, if◌then◌else◌, List, nat_le, ◌==◌, length, slice_index, set}
 use Rattle.text_reader.specs.Lines.{Line, lines}
 use Rattle.text_reader.specs.Reading.{Starts}
 use Rattle.base_laws.specs.Test.{◌and◌, within}
@@ -20,16 +20,22 @@ pub record LoadAsked (tables : NetworkTables) (room : List Tram) : Type 0 where
 
 -- a tram is for signal r in step n
 unfoldable pub covers_in : Tram → ℕ → ℕ → Bool
-covers_in tram r n = eqb tram.signal (suc r) and within tram.first_step (suc n) tram.last_step
+covers_in tram r n = tram.signal == suc r and within tram.first_step (suc n) tram.last_step
 
 -- the phase that so many trams from tram k on ask of signal r in step n; 0 if none does
 unfoldable pub phase_from : List Tram → ℕ → ℕ → ℕ → ℕ → ℕ
 phase_from trams r n k zero = 0
-phase_from trams r n k (suc left) = cond (covers_in (tram_at trams k) r n) (tram_at trams k).phase (phase_from trams r n (suc k) left)
+phase_from trams r n k (suc left) =
+    if covers_in (tram_at trams k) r n
+    then (tram_at trams k).phase
+    else phase_from trams r n (suc k) left
 
 -- the phases asked in step n, with the claim of a tram
 unfoldable pub claimed : Tram → ℕ → List ℕ → List ℕ
-claimed tram n asked = cond (leb tram.first_step (suc n) && leb (suc n) tram.last_step) (set asked (tram.signal - 1) tram.phase) asked
+claimed tram n asked =
+    if nat_le tram.first_step (suc n) && nat_le (suc n) tram.last_step
+    then set asked (tram.signal - 1) tram.phase
+    else asked
 
 -- a tram is for one of the signals of which phases are asked
 pub record ClaimAsked (tram : Tram) (n : ℕ) (asked : List ℕ) : Type 0 where
@@ -45,14 +51,15 @@ pub record ClaimsAsked (trams : List Tram) (n : ℕ) (asked : List ℕ) : Type 0
   pub signal-first : (k : ℕ) → k < length trams → 1 ≤ (tram_at trams k).signal
   pub signal-last : (k : ℕ) → k < length trams → (tram_at trams k).signal ≤ max_signals
   pub room : length asked ≡ max_signals
-  pub none : (r : ℕ) → r < max_signals → get_or asked r 0 ≡ 0
+  pub none : (r : ℕ) → r < max_signals → slice_index asked r ≡ 0
 
 -- the phase that the trams ask of each signal in step n
 pub record Claimed (trams : List Tram) (n : ℕ) (asked : List ℕ) : Type 0 where
   pub size : length asked ≡ max_signals
-  pub holds : (r : ℕ) → r < max_signals → get_or asked r 0 ≡ phase_from trams r n 0 (length trams)
+  pub holds :
+      (r : ℕ) → r < max_signals → slice_index asked r ≡ phase_from trams r n 0 (length trams)
 
 -- the paper's
 pub record TramPhases (network : List Line) (n : ℕ) (asked : List ℕ) : Type 0 where
   pub size : length asked ≡ max_signals
-  pub holds : (r : ℕ) → r < max_signals → get_or asked r 0 ≡ tram_phase (trams network) r n
+  pub holds : (r : ℕ) → r < max_signals → slice_index asked r ≡ tram_phase (trams network) r n

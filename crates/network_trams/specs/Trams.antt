@@ -1,5 +1,5 @@
 -- The tests of trams by their table.
-use Rattle.std.specs.Prelude.{ℕ, suc, ◌-◌, ◌≤◌, ◌<◌, ◌≡◌, Bool, not, List, leb, ltb, eqb, length}
+use Rattle.std.specs.Prelude.{ℕ, suc, ◌-◌, ◌≤◌, ◌<◌, ◌≡◌, Bool, not, List, nat_le, nat_lt, ◌==◌, length}
 use Rattle.base_search.specs.Checks.{Checks, check}
 use Rattle.model.specs.declared.Signal.{Signal}
 use Rattle.model.specs.Network.{max_trams}
@@ -11,7 +11,8 @@ use Rattle.network_tables.specs.Fields.{tram_at, signal_at}
 
 -- two trams have no step in common for one signal
 unfoldable pub apart_in : Tram → Tram → Bool
-apart_in a b = not (eqb a.signal b.signal) or ltb a.last_step b.first_step or ltb b.last_step a.first_step
+apart_in a b =
+    not (a.signal == b.signal) or nat_lt a.last_step b.first_step or nat_lt b.last_step a.first_step
 
 -- tram k is apart from each of the first n trams
 unfoldable pub apart_from : List Tram → ℕ → ℕ → Bool
@@ -21,7 +22,10 @@ apart_from trams n k = every n (λ j. apart_in (tram_at trams j) (tram_at trams 
 unfoldable pub valid_tram_in : List Tram → ℕ → ℕ → ℕ → Bool
 valid_tram_in trams signals steps k =
     let tram = tram_at trams k in
-    within 1 tram.signal signals and leb 1 tram.first_step and within tram.first_step tram.last_step steps and apart_from trams k k
+    within 1 tram.signal signals
+    and nat_le 1 tram.first_step
+    and within tram.first_step tram.last_step steps
+    and apart_from trams k k
 
 -- 28, a tram's phase among those of its signal
 unfoldable pub valid_phase_in : Tram → List Signal → Bool

@@ -1,5 +1,5 @@
 -- Which of two plans is ahead (T-11): their curves of let-out volume, their order by these, and the answer of the call.
-use Rattle.std.specs.Prelude.{ℕ, suc, Bool, true, false, List, leb, Result, Ok, Err}
+use Rattle.std.specs.Prelude.{ℕ, suc, Bool, true, false, List, nat_le, Result, Ok, Err}
 use Rattle.std.proofs.Math.IntN.{sub_ℕ}
 use Rattle.text_reader.specs.Lines.{Line}
 use Rattle.base_laws.specs.Test.{every}
@@ -38,7 +38,8 @@ module _ (network : List Line) where
 
   -- whether one plan has let out no fewer than another up to every boundary
   unfoldable pub is_never_fewer : List Line → List Line → Bool
-  is_never_fewer one other = every (suc (step_count network)) (λ n. leb (let_out_by other n) (let_out_by one n))
+  is_never_fewer one other =
+      every (suc (step_count network)) (λ n. nat_le (let_out_by other n) (let_out_by one n))
 
   unfoldable pub order : List Line → List Line → Order
   order first second = order_by (is_never_fewer first second) (is_never_fewer second first)

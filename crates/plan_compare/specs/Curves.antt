@@ -1,5 +1,5 @@
 -- The curves as the program reads them again from the two plan texts, line after line.
-use Rattle.std.specs.Prelude.{ℕ, suc, ◌*◌, ◌≤◌, ◌<◌, ◌≡◌, Bool, true, List, leb, ltb, length}
+use Rattle.std.specs.Prelude.{ℕ, suc, ◌*◌, ◌≤◌, ◌<◌, ◌≡◌, Bool, true, List, nat_le, nat_lt, length}
 use Rattle.text_reader.specs.Lines.{lines}
 use Rattle.text_reader.specs.Reading.{Starts}
 use Rattle.base_laws.specs.Test.{every}
@@ -14,11 +14,14 @@ use Rattle.plan_compare.specs.Comparison.{order_by}
 
 -- what line n of a plan text lets out of all links; an empty text means hold, and lets nothing out
 unfoldable pub line_lets_out : Counts → List ℕ → ℕ → ℕ
-line_lets_out counts text n = only (ltb 0 (length text)) (sum counts.links (λ i. entry (lines text) n (let_out_place counts i)))
+line_lets_out counts text n =
+    only (nat_lt 0 (length text))
+    (sum counts.links (λ i. entry (lines text) n (let_out_place counts i)))
 
 -- whether the lines of one text let out no fewer than those of another up to boundary n, and the order of two texts by that
 unfoldable pub lines_no_fewer : Counts → List ℕ → List ℕ → ℕ → Bool
-lines_no_fewer counts one other n = leb (sum n (line_lets_out counts other)) (sum n (line_lets_out counts one))
+lines_no_fewer counts one other n =
+    nat_le (sum n (line_lets_out counts other)) (sum n (line_lets_out counts one))
 
 unfoldable pub lines_order : Counts → List ℕ → List ℕ → Order
 lines_order counts first second =

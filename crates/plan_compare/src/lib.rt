@@ -1,7 +1,7 @@
 // Finds which of two plans is ahead: the call `compare_plans`.
 #![tactic(auto)]
 
-ghost use Rattle.std.specs.Prelude.{◌≡◌, ◌<◌, length};
+ghost use Rattle.std.specs.Prelude.{◌≡◌, ◌<◌, ◌^◌, length};
 ghost use Rattle.std.proofs.Math.IntN.{sub_ℕ};
 ghost use Rattle.text_reader.specs.Lines.{lines};
 ghost use Rattle.text_reader.specs.Padding.{PaddingIgnored};
@@ -141,7 +141,7 @@ fn order_of_texts(first: &[u8], second: &[u8], counts: Counts) -> Order
 
 // The difference of two doubled times.
 fn gap_between(first: u64, second: u64) -> i64
-    requires { (first < 9223372036854775808) × (second < 9223372036854775808) }
+    requires { (first < 2 ^ 63) × (second < 2 ^ 63) }
     ensures { result ≡ sub_ℕ first second }
 {
     first as i64 - second as i64

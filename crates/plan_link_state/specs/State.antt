@@ -1,5 +1,5 @@
 -- The state of a link by the tables of a network that has passed and a ledger.
-use Rattle.std.specs.Prelude.{ℕ, suc, ◌+◌, ◌*◌, ◌-◌, ◌/◌, ◌≤◌, ◌<◌, ◌≡◌, true, false, cond, List, [], leb, length, Result, Err, Ok}
+use Rattle.std.specs.Prelude.{ℕ, suc, ◌+◌, ◌*◌, ◌-◌, ◌/◌, ◌≤◌, ◌<◌, ◌≡◌, true, false, if◌then◌else◌, List, [], nat_le, length, Result, Err, Ok}
 use Rattle.base_search.specs.Checks.{refusal, Hold}
 use Rattle.text_reader.specs.Lines.{Line, lines}
 use Rattle.text_reader.specs.Reading.{Starts}
@@ -56,9 +56,12 @@ arrived_in network ledger boundary link =
 -- 21, or queued and in transit
 unfoldable pub state_from : ℕ → ℕ → Arrived → Result LinkState Refusal
 state_from entered left arrived =
-    cond (arrived.rises and leb (left * arrived.seconds) arrived.scaled and leb arrived.scaled (entered * arrived.seconds))
-    (Ok (state_of (arrived.scaled / arrived.seconds - left) (entered - arrived.scaled / arrived.seconds)))
-    (Err (refusal 21 0 0))
+    if arrived.rises
+    and nat_le (left * arrived.seconds) arrived.scaled
+    and nat_le arrived.scaled (entered * arrived.seconds)
+    then Ok (state_of (arrived.scaled / arrived.seconds - left)
+    (entered - arrived.scaled / arrived.seconds))
+    else Err (refusal 21 0 0)
 
 -- The state of link i, from 0, at a boundary, by a plan: what is queued is the most that has arrived and not left, and the rest of what the link holds is in transit.
 pub record PlanState (network plan : List Line) (boundary i : ℕ) (answer : Result LinkState Refusal) : Type 0 where

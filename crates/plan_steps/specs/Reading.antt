@@ -1,5 +1,5 @@
 -- What reading the lines of a step requires and promises.
-use Rattle.std.specs.Prelude.{ℕ, ◌+◌, ◌≤◌, ◌<◌, ◌≡◌, true, false, List, length, get_or, Option, MatchOption}
+use Rattle.std.specs.Prelude.{ℕ, ◌+◌, ◌≤◌, ◌<◌, ◌≡◌, true, false, List, length, slice_index, Option, MatchOption}
 use Rattle.base_search.specs.Checks.{Hold}
 use Rattle.text_reader.specs.Lines.{lines}
 use Rattle.text_reader.specs.Reading.{Starts}
@@ -34,14 +34,15 @@ pub record Cleared (said : Lines) : Type 0 where
   pub step-size : length said.step ≡ step_size
   pub plan-size : length said.plan ≡ line_size
   pub phases-size : length said.phases ≡ max_signals
-  pub no-number : (k : ℕ) → get_or said.plan k 0 ≡ 0
+  pub no-number : (k : ℕ) → slice_index said.plan k ≡ 0
 
 -- what a step's lines say, as it is lent from step to step: where the plan's text is empty, no volume is in it
 pub record LinesLent (network_text plan_text : List ℕ) (lent : Lines) : Type 0 where
   pub step-size : length lent.step ≡ step_size
   pub plan-size : length lent.plan ≡ line_size
   pub phases-size : length lent.phases ≡ max_signals
-  pub no-volume : length plan_text ≡ 0 → (k : ℕ) → signal_count (lines network_text) ≤ k → get_or lent.plan k 0 ≡ 0
+  pub no-volume : length plan_text ≡ 0 → (k : ℕ) → signal_count (lines network_text) ≤ k
+      → slice_index lent.plan k ≡ 0
 
 -- what reading the lines of the next step requires ..
 pub record ReadAsked (run : Run) (place : Place) (signals : List Signal) (said : Lines) : Type 0 where

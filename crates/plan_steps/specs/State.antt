@@ -1,5 +1,5 @@
 -- What taking the steps of a plan one after another requires and promises.
-use Rattle.std.specs.Prelude.{ℕ, suc, ◌+◌, ◌*◌, ◌≤◌, ◌<◌, ◌≡◌, cond, List, length, Result, Ok, Err, MatchResult}
+use Rattle.std.specs.Prelude.{ℕ, suc, ◌+◌, ◌*◌, ◌≤◌, ◌<◌, ◌≡◌, if◌then◌else◌, List, length, Result, Ok, Err, MatchResult}
 use Rattle.base_search.specs.declared.Refusal.{Refusal}
 use Rattle.base_search.specs.Checks.{refusal, verdict}
 use Rattle.text_reader.specs.Lines.{lines}
@@ -101,4 +101,4 @@ pub record StepGot (network_text plan_text old : List ℕ) (state : State) (resu
 
 -- the answer once all steps have passed: the plan's text is at its end, or one line more is refused
 unfoldable pub finished : List ℕ → ℕ → ℕ → Totals → Result Totals Refusal
-finished plan at steps t = cond (at_end plan at) (Ok t) (Err (refusal 9 (steps + 1) 0))
+finished plan at steps t = if at_end plan at then Ok t else Err (refusal 9 (steps + 1) 0)

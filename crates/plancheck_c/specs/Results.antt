@@ -1,5 +1,5 @@
 -- The numbers that the C library gives for each answer: a refusal's number, line and item, or number 0 and the values.
-use Rattle.std.specs.Prelude.{ℕ, cond, List, ◌≡◌, ◌≢◌, eqb, pos, Result, Ok, Err}
+use Rattle.std.specs.Prelude.{ℕ, if◌then◌else◌, List, ◌≡◌, ◌≢◌, ◌==◌, pos, Result, Ok, Err}
 use Rattle.base_search.specs.Checks.{refusal, Checks, Hold, Verdict}
 use Rattle.base_search.specs.Numbers.{CanArise}
 use Rattle.model.specs.Calls.{state_of}
@@ -37,7 +37,7 @@ verdict_result (Err r) = record { number = r.number; line = r.line; item = r.ite
 
 -- the verdict that a C caller reads off: number 0 passes, any other is a refusal
 abbrev pub verdict_of : NetworkResult → Verdict
-verdict_of r = cond (eqb r.number 0) (Ok tt) (Err (refusal r.number r.line r.item))
+verdict_of r = if r.number == 0 then Ok tt else Err (refusal r.number r.line r.item)
 
 abbrev pub counts_result : Result Counts Refusal → CountsResult
 counts_result (Ok c) =
@@ -58,8 +58,14 @@ plan_result (Err r) =
 -- the answer that a C caller reads off: number 0 is an accepted plan, any other a refusal
 abbrev pub plan_answer_of : PlanResult → Result Totals Refusal
 plan_answer_of r =
-    cond (eqb r.number 0) (Ok (record { admitted = r.admitted; let_out = r.let_out; inside = r.inside; doubled_time = r.doubled_time }))
-    (Err (refusal r.number r.line r.item))
+    if r.number == 0
+    then Ok (record {
+      admitted = r.admitted;
+      let_out = r.let_out;
+      inside = r.inside;
+      doubled_time = r.doubled_time;
+    })
+    else Err (refusal r.number r.line r.item)
 
 abbrev pub link_result : Result LinkState Refusal → LinkResult
 link_result (Ok state) = record { number = 0; line = 0; item = 0; queued = state.queued; in_transit = state.in_transit }
@@ -67,7 +73,10 @@ link_result (Err r) = record { number = r.number; line = r.line; item = r.item; 
 
 -- the answer that a C caller reads off: number 0 is the state of a link, any other a refusal
 abbrev pub link_answer_of : LinkResult → Result LinkState Refusal
-link_answer_of r = cond (eqb r.number 0) (Ok (state_of r.queued r.in_transit)) (Err (refusal r.number r.line r.item))
+link_answer_of r =
+    if r.number == 0
+    then Ok (state_of r.queued r.in_transit)
+    else Err (refusal r.number r.line r.item)
 
 abbrev pub text_result : Result ℕ Refusal → TextResult
 text_result (Ok end) = record { number = 0; line = 0; item = 0; length = end }
@@ -75,7 +84,7 @@ text_result (Err r) = record { number = r.number; line = r.line; item = r.item; 
 
 -- the answer that a C caller reads off: number 0 is a text written, any other a refusal
 abbrev pub text_answer_of : TextResult → Result ℕ Refusal
-text_answer_of r = cond (eqb r.number 0) (Ok r.length) (Err (refusal r.number r.line r.item))
+text_answer_of r = if r.number == 0 then Ok r.length else Err (refusal r.number r.line r.item)
 
 abbrev pub cells_result : Result CellsRun Refusal → List ℕ → CellsResult
 cells_result (Ok run) volumes =
@@ -86,16 +95,26 @@ cells_result (Err r) volumes =
 -- the answer that a C caller reads off: number 0 is a corridor that was run, any other a refusal
 abbrev pub cells_answer_of : CellsResult → Result CellsRun Refusal
 cells_answer_of r =
-    cond (eqb r.number 0) (Ok (record { cells = r.cells; flow_in = r.flow_in; flow_out = r.flow_out; volumes = r.volumes }))
-    (Err (refusal r.number r.line r.item))
+    if r.number == 0
+    then Ok (record {
+      cells = r.cells;
+      flow_in = r.flow_in;
+      flow_out = r.flow_out;
+      volumes = r.volumes;
+    })
+    else Err (refusal r.number r.line r.item)
 
 -- the order that a C caller reads off its number
 abbrev pub order_of : ℕ → Order
-order_of number = cond (eqb number 1) Ahead (cond (eqb number 2) Behind (cond (eqb number 3) Equal Crossing))
+order_of number =
+    if number == 1 then Ahead
+    else if number == 2 then Behind
+    else if number == 3 then Equal
+    else Crossing
 
 -- the refusal of the network, 0, or of a plan, 1 or 2, that a C caller reads off
 abbrev pub refusal_of_plan : ℕ → Refusal → ComparisonRefusal
-refusal_of_plan plan r = cond (eqb plan 0) (Network r) (cond (eqb plan 1) (First r) (Second r))
+refusal_of_plan plan r = if plan == 0 then Network r else if plan == 1 then First r else Second r
 
 abbrev pub comparison_result : Result Comparison ComparisonRefusal → ComparisonResult
 comparison_result (Ok c) = record { number = 0; line = 0; item = 0; plan = 0; order = order_number c.order; gap = c.gap }
@@ -106,8 +125,9 @@ comparison_result (Err refused) =
 -- the answer that a C caller reads off: number 0 is two plans that were compared, any other a refusal
 abbrev pub comparison_answer_of : ComparisonResult → Result Comparison ComparisonRefusal
 comparison_answer_of r =
-    cond (eqb r.number 0) (Ok (record { order = order_of r.order; gap = r.gap }))
-    (Err (refusal_of_plan r.plan (refusal r.number r.line r.item)))
+    if r.number == 0
+    then Ok (record { order = order_of r.order; gap = r.gap })
+    else Err (refusal_of_plan r.plan (refusal r.number r.line r.item))
 
 abbrev pub split_result : Result Lengths Refusal → SplitResult
 split_result (Ok end) =
@@ -126,6 +146,11 @@ split_result (Err r) =
 -- the answer that a C caller reads off: number 0 is four texts written, any other a refusal
 abbrev pub split_answer_of : SplitResult → Result Lengths Refusal
 split_answer_of r =
-    cond (eqb r.number 0)
-    (Ok (record { network_1 = r.network_1; plan_1 = r.plan_1; network_2 = r.network_2; plan_2 = r.plan_2 }))
-    (Err (refusal r.number r.line r.item))
+    if r.number == 0
+    then Ok (record {
+      network_1 = r.network_1;
+      plan_1 = r.plan_1;
+      network_2 = r.network_2;
+      plan_2 = r.plan_2;
+    })
+    else Err (refusal r.number r.line r.item)

@@ -1,5 +1,5 @@
 -- The `B` records of an accepted plan, as its rows stand in a ledger, and what their writing requires.
-use Rattle.std.specs.Prelude.{ℕ, suc, ◌+◌, ◌-◌, ◌*◌, ◌≤◌, ◌≡◌, List, ◌∷◌, length, take, drop, get_or}
+use Rattle.std.specs.Prelude.{ℕ, suc, ◌+◌, ◌-◌, ◌*◌, ◌≤◌, ◌≡◌, List, ◌∷◌, length, take, drop, slice_index}
 use Rattle.text_writer.specs.Records.{record_texts}
 use Rattle.model.specs.Network.{max_steps}
 use Rattle.network_tables.specs.declared.Counts.{Counts}
@@ -16,12 +16,12 @@ ledger_size = time_table_size * row_size
 
 -- the times of the plan's boundaries, by the table of the timeline's: since the end of the past
 abbrev pub plan_time : Counts → List ℕ → ℕ → ℕ
-plan_time counts times n = get_or times (counts.past + n) 0 - get_or times counts.past 0
+plan_time counts times n = slice_index times (counts.past + n) - slice_index times counts.past
 
 pub record TimeAsked (counts : Counts) (times : List ℕ) (n : ℕ) : Type 0 where
   pub few : counts.past + n ≤ max_steps
   pub size : length times ≡ time_table_size
-  pub since : get_or times counts.past 0 ≤ get_or times (counts.past + n) 0
+  pub since : slice_index times counts.past ≤ slice_index times (counts.past + n)
 
 -- the `B` records of boundaries 0 to K, by the counts and the times of a network
 abbrev pub boundary_texts : Counts → List ℕ → List ℕ → List ℕ

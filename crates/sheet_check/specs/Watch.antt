@@ -1,6 +1,6 @@
 -- What is watched of each signal in the pass over the steps of an accepted plan: the numbers of 34, by the program's
 -- tables.
-use Rattle.std.specs.Prelude.{ℕ, ◌+◌, ◌-◌, ◌≤◌, ◌<◌, ◌≡◌, false, cond, not, List, leb, eqb, length, get_or}
+use Rattle.std.specs.Prelude.{ℕ, ◌+◌, ◌-◌, ◌≤◌, ◌<◌, ◌≡◌, false, if◌then◌else◌, not, List, nat_le, ◌==◌, length, slice_index, slice_index_or}
 use Rattle.text_reader.specs.Lines.{Line}
 use Rattle.model.specs.declared.Signal.{Signal}
 use Rattle.base_laws.specs.Test.{◌and◌}
@@ -17,21 +17,27 @@ abbrev pub no_watch : Watch
 no_watch = record { tested = false; line = 0; broken = 0 }
 
 abbrev pub watch_in : List Watch → ℕ → Watch
-watch_in watches r = get_or watches r no_watch
+watch_in watches r = slice_index_or watches r no_watch
 
 -- the line of the first broken run after a run of so many seconds has ended, whose duration is so many
 unfoldable pub first_broken : Watch → ℕ → ℕ → ℕ
-first_broken w seconds lasts = cond (eqb w.broken 0) (cond (w.tested and not (eqb seconds lasts)) w.line 0) w.broken
+first_broken w seconds lasts =
+    if w.broken == 0 then if w.tested and not (seconds == lasts) then w.line else 0 else w.broken
 
 -- after an ordinary step, at a line, that starts at time t and shows q, of a signal that is s before it; the phase that s shows lasts so many seconds
 unfoldable pub watch_after : Watch → Signal → ℕ → ℕ → ℕ → ℕ → Watch
 watch_after w s q line t lasts =
-    cond (eqb q s.shown) (record { tested = w.tested; line = line; broken = w.broken })
-    (record { tested = leb s.greatest_cycle t; line = line; broken = first_broken w s.shown_for lasts })
+    if q == s.shown
+    then record { tested = w.tested; line = line; broken = w.broken }
+    else record {
+      tested = nat_le s.greatest_cycle t;
+      line = line;
+      broken = first_broken w s.shown_for lasts;
+    }
 
 -- after any step: where a tram asks a phase, nothing moves
 unfoldable pub next_watch : Watch → ℕ → Signal → ℕ → ℕ → ℕ → ℕ → Watch
-next_watch w asked s q line t lasts = cond (eqb asked 0) (watch_after w s q line t lasts) w
+next_watch w asked s q line t lasts = if asked == 0 then watch_after w s q line t lasts else w
 
 -- the duration of the phase that a signal shows, by its line of the sheet
 abbrev pub duration_in : List ℕ → Signal → ℕ
@@ -53,7 +59,10 @@ pub record WatchAsked (pass : Pass) (signals : List Signal) (said : Lines) (tabl
 pub record Watched (pass : Pass) (signals : List Signal) (n : ℕ) (said : Lines) (table : List (List ℕ)) (after : Pass) : Type 0 where
   pub size : length after.watches ≡ length pass.watches
   pub on : (r : ℕ) → r < n
-      → watch_in after.watches r ≡ next_watch (watch_in pass.watches r) (get_or said.asked r 0) (signal_at signals r) (get_or said.phases r 0) (pass.place.boundary + 1) pass.time (duration_in (line_in table r) (signal_at signals r))
+      → watch_in after.watches r
+      ≡ next_watch (watch_in pass.watches r) (slice_index said.asked r) (signal_at signals r)
+      (slice_index said.phases r) (pass.place.boundary + 1) pass.time
+      (duration_in (line_in table r) (signal_at signals r))
   pub kept : (r : ℕ) → n ≤ r → watch_in after.watches r ≡ watch_in pass.watches r
   pub same : after ≡ record pass { watches = after.watches }
 

@@ -2,7 +2,7 @@
 // first; then one pass over its steps watches a few numbers of each signal. No table of runs is kept.
 #![tactic(auto)]
 
-ghost use Rattle.std.specs.Prelude.{◌≡◌, ◌<◌, length};
+ghost use Rattle.std.specs.Prelude.{◌≡◌, ◌<◌, ◌^◌, length};
 ghost use Rattle.text_reader.specs.Lines.{lines};
 ghost use Rattle.text_reader.specs.Padding.{PaddingIgnored};
 ghost use Rattle.model.specs.Hold.{plan_of};
@@ -110,7 +110,7 @@ fn is_earlier(x: u32, y: u32) -> bool
 // watch. A loop: of `min_by_key` only its turns (`ran`) say that the first of equal keys wins, and after a `filter`
 // that did not prove this.
 fn check_runs(watches: &[Watch]) -> Result<(), Refusal>
-    requires { length watches.now < 4294967296 }
+    requires { length watches.now < 2 ^ 32 }
     ensures { result ≡ pass_verdict (λ i. (watch_in watches.now i).broken) (length watches.now) }
 {
     let mut line: u32 = 0;

@@ -1,5 +1,5 @@
 -- What the reading of a sheet into a table requires and promises.
-use Rattle.std.specs.Prelude.{ℕ, ◌+◌, ◌≤◌, ◌<◌, ◌≡◌, Bool, true, false, List, [], length, get_or, Option, Some, None, Ok}
+use Rattle.std.specs.Prelude.{ℕ, ◌+◌, ◌≤◌, ◌<◌, ◌≡◌, Bool, true, false, List, [], length, slice_index, slice_index_or, Option, Some, None, Ok}
 use Rattle.base_search.specs.Checks.{verdict, Verdict}
 use Rattle.text_reader.specs.Lines.{Line, lines}
 use Rattle.text_reader.specs.Reading.{Starts}
@@ -18,10 +18,10 @@ sheet_fields = 9
 
 -- the line of signal r in a table, and number k of a line
 abbrev pub line_in : List (List ℕ) → ℕ → List ℕ
-line_in table r = get_or table r []
+line_in table r = slice_index_or table r []
 
 abbrev pub number_in : List ℕ → ℕ → ℕ
-number_in line k = get_or line k 0
+number_in line k = slice_index line k
 
 -- the numbers of one line are judged
 pub record NumbersAsked (line : List ℕ) (signal : Signal) (offsets : ℕ) : Type 0 where

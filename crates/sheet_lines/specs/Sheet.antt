@@ -1,6 +1,6 @@
 -- A fixed-time sheet (T-10; C19, C20 of source document 002): line r is that of signal r, `F` and one duration a phase; to write a plan the offset after them, the
 -- seconds of the cycle, phase 1 first, that have run at time 0. Signals are counted from 0 here, phases from 1.
-use Rattle.std.specs.Prelude.{ℕ, zero, suc, ◌+◌, ◌-◌, Bool, true, List, ltb, eqb, length, get_or}
+use Rattle.std.specs.Prelude.{ℕ, zero, suc, ◌+◌, ◌-◌, Bool, true, List, nat_lt, ◌==◌, length, slice_index}
 use Rattle.base_search.specs.Checks.{Checks, check, each, ◌then◌}
 use Rattle.text_reader.specs.Lines.{Line}
 use Rattle.model.specs.declared.Signal.{Signal}
@@ -14,12 +14,13 @@ letter_f = 70
 
 -- the numbers of a line: each duration is within its phase's limits ..
 unfoldable pub valid_durations : Signal → (ℕ → ℕ) → Bool
-valid_durations s value = every s.phases (λ k. within (get_or s.least k 0) (value k) (get_or s.greatest k 0))
+valid_durations s value =
+    every s.phases (λ k. within (slice_index s.least k) (value k) (slice_index s.greatest k))
 
 -- .. and an offset, where there is one, is below their sum
 unfoldable pub valid_offset : ℕ → Signal → (ℕ → ℕ) → Bool
 valid_offset zero s value = true
-valid_offset (suc _) s value = ltb (value s.phases) (sum s.phases value)
+valid_offset (suc _) s value = nat_lt (value s.phases) (sum s.phases value)
 
 unfoldable pub valid_numbers : ℕ → Signal → (ℕ → ℕ) → Bool
 valid_numbers offsets s value = valid_durations s value and valid_offset offsets s value
@@ -44,7 +45,7 @@ module _ (signals : ℕ → Signal) (count : ℕ) (sheet : List Line) (offsets :
       then check 33 (suc r) 0 (valid_numbers offsets (signals r) (entry sheet r))
 
   unfoldable pub signals_checks : Checks
-  signals_checks = each count sheet_line_checks then check 33 (suc count) 0 (eqb (length sheet) count)
+  signals_checks = each count sheet_line_checks then check 33 (suc count) 0 (length sheet == count)
 
 -- .. for the signals of a network
 unfoldable pub sheet_checks : List Line → List Line → ℕ → Checks

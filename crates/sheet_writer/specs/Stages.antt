@@ -1,5 +1,5 @@
 -- What the functions of the call require and promise.
-use Rattle.std.specs.Prelude.{ℕ, ◌≤◌, ◌<◌, ◌≡◌, List, [], length, get_or, Result, Ok}
+use Rattle.std.specs.Prelude.{ℕ, ◌≤◌, ◌<◌, ◌≡◌, List, [], length, slice_index_or, Result, Ok}
 use Rattle.base_search.specs.declared.Refusal.{Refusal}
 use Rattle.base_search.specs.Checks.{or_else, verdict, Verdict}
 use Rattle.text_reader.specs.Lines.{Line}
@@ -24,7 +24,7 @@ pub record MasksAsked (signals : List Signal) (table : List (List ℕ)) (times :
 pub record MasksGot (trams : List Tram) (signals : List Signal) (table : List (List ℕ)) (times : List ℕ) (steps : ℕ) (result : Verdict) (masks : List (List ℕ)) : Type 0 where
   pub told : result ≡ verdict (boundary_checks_in trams signals table times steps)
   pub size : length masks ≡ steps
-  pub widths : (m : ℕ) → m < steps → length (get_or masks m []) ≡ max_signals
+  pub widths : (m : ℕ) → m < steps → length (slice_index_or masks m []) ≡ max_signals
   pub held : result ≡ Ok tt → MasksHeld signals table times (length signals) masks
 
 -- on a network that has passed: 33, 35, 24

@@ -1,5 +1,5 @@
 -- A sheet's cycles by the program's tables: one line's numbers, the times of the boundaries, and the masks, a row of eight a step. Not of the request.
-use Rattle.std.specs.Prelude.{ℕ, suc, ◌+◌, ◌-◌, ◌^◌, ◌≤◌, ◌<◌, ◌≡◌, Bool, not, ◌≢◌, List, [], ltb, eqb, length, get_or, Option, Some, None, true, false}
+use Rattle.std.specs.Prelude.{ℕ, suc, ◌+◌, ◌-◌, ◌^◌, ◌≤◌, ◌<◌, ◌≡◌, Bool, not, ◌≢◌, List, [], nat_lt, ◌==◌, length, slice_index, slice_index_or, Option, Some, None, true, false}
 use Rattle.base_search.specs.Checks.{Checks, check, each}
 use Rattle.text_writer.specs.Records.{record_texts}
 use Rattle.base_laws.specs.Test.{◌and◌, every}
@@ -47,16 +47,16 @@ pub record NextRun (value : ℕ → ℕ) (P : ℕ) (run : Run) (seconds : ℕ) (
 
 -- ---- the times of the boundaries, from the first on
 abbrev pub time_in : List ℕ → ℕ → ℕ
-time_in times n = get_or times n 0 - get_or times 0 0
+time_in times n = slice_index times n - slice_index times 0
 
 pub record TimesAsked (times : List ℕ) (steps : ℕ) : Type 0 where
   pub room : steps < length times
-  pub since : (n : ℕ) → n ≤ steps → get_or times 0 0 ≤ get_or times n 0
-  pub rises : (n : ℕ) → n < steps → get_or times n 0 ≤ get_or times (n + 1) 0
+  pub since : (n : ℕ) → n ≤ steps → slice_index times 0 ≤ slice_index times n
+  pub rises : (n : ℕ) → n < steps → slice_index times n ≤ slice_index times (n + 1)
 
 -- ---- the masks
 abbrev pub mask_in : List (List ℕ) → ℕ → ℕ → ℕ
-mask_in masks n r = get_or (get_or masks n []) r 0
+mask_in masks n r = slice_index (slice_index_or masks n []) r
 
 -- every step fits a run of the line
 unfoldable pub fits_in : (ℕ → ℕ) → ℕ → List ℕ → ℕ → Bool
@@ -74,7 +74,7 @@ pub record Column (value : ℕ → ℕ) (P : ℕ) (times : List ℕ) (r n : ℕ)
 
 pub record ColumnGot (value : ℕ → ℕ) (P : ℕ) (times : List ℕ) (r : ℕ) (before : List (List ℕ)) (result : Option (Unit {0})) (masks : List (List ℕ)) : Type 0 where
   pub size : length masks ≡ length before
-  pub widths : (m : ℕ) → m < length before → length (get_or masks m []) ≡ max_signals
+  pub widths : (m : ℕ) → m < length before → length (slice_index_or masks m []) ≡ max_signals
   pub ends : result ≡ None → fits_in value P times (length before) ≡ false
   pub fits : result ≡ Some tt → fits_in value P times (length before) ≡ true
   pub column : result ≡ Some tt → Column value P times r (length before) before masks
@@ -82,7 +82,7 @@ pub record ColumnGot (value : ℕ → ℕ) (P : ℕ) (times : List ℕ) (r : ℕ
 -- ---- all signals: 35 by the tables
 -- none of the trams asks a phase of signal r
 unfoldable pub has_no_tram_in : List Tram → ℕ → Bool
-has_no_tram_in trams r = every (length trams) (λ k. not (eqb (tram_at trams k).signal (suc r)))
+has_no_tram_in trams r = every (length trams) (λ k. not ((tram_at trams k).signal == suc r))
 
 module _ (trams : List Tram) (signals : List Signal) (table : List (List ℕ)) (times : List ℕ) (steps : ℕ) where
   unfoldable pub can_write_in : ℕ → Bool
@@ -103,4 +103,6 @@ pub record MasksHeld (signals : List Signal) (table : List (List ℕ)) (times : 
 -- the numbers of each `P` line by the cycles: a mask for each signal, and volumes that are 0
 unfoldable pub cycle_text : List Signal → List (List ℕ) → List ℕ → Counts → List ℕ
 cycle_text signals table times counts =
-    record_texts letter_p counts.steps (λ n. list (plan_width counts) (λ k. only (ltb k counts.signals) (2 ^ (phase_in signals table times n k - 1))))
+    record_texts letter_p counts.steps
+    (λ n. list (plan_width counts)
+    (λ k. only (nat_lt k counts.signals) (2 ^ (phase_in signals table times n k - 1))))

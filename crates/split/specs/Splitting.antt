@@ -1,5 +1,5 @@
 -- What the call requires and promises of a network that has passed.
-use Rattle.std.specs.Prelude.{ℕ, ◌/◌, ◌^◌, ◌≡◌, Bool, true, false, List, leb, Result, Ok, Err}
+use Rattle.std.specs.Prelude.{ℕ, ◌/◌, ◌^◌, ◌≡◌, Bool, true, false, List, nat_le, Result, Ok, Err}
 use Rattle.base_search.specs.declared.Refusal.{Refusal}
 use Rattle.base_search.specs.Checks.{refusal, verdict, Hold, Verdict}
 use Rattle.text_reader.specs.Lines.{Line, lines}
@@ -73,8 +73,10 @@ Measured whole halves found =
 -- texts of these lengths have room
 unfoldable pub fits : Lengths → Lengths → Bool
 fits sizes room =
-    leb sizes.network_1 room.network_1 and leb sizes.plan_1 room.plan_1 and leb sizes.network_2 room.network_2
-    and leb sizes.plan_2 room.plan_2
+    nat_le sizes.network_1 room.network_1
+    and nat_le sizes.plan_1 room.plan_1
+    and nat_le sizes.network_2 room.network_2
+    and nat_le sizes.plan_2 room.plan_2
 
 -- the four texts were written if each has room (42); else every buffer is as it was
 pub record WrittenWhere (network plan : List Line) (set : ℕ) (before after : Buffers) (answer : Result Lengths Refusal) : Type 0 where

@@ -1,5 +1,5 @@
 -- What the tests of 40 and 41 require of a network that has passed, and what they find.
-use Rattle.std.specs.Prelude.{ℕ, ◌/◌, ◌^◌, ◌≡◌, Bool, List, ltb}
+use Rattle.std.specs.Prelude.{ℕ, ◌/◌, ◌^◌, ◌≡◌, Bool, List, nat_lt}
 use Rattle.base_search.specs.Checks.{Hold}
 use Rattle.text_reader.specs.Lines.{Line}
 use Rattle.text_reader.specs.Reading.{Starts}
@@ -38,7 +38,8 @@ pub record SplitAsked (whole : Whole) : Type 0 where
 -- 40, of every set whose halves these are
 abbrev pub SplitTold : List Line → Halves → Bool → Type 0
 SplitTold network halves told =
-    (set : ℕ) → halves.above ≡ set / 2 ^ link_count network → HalvesBy network set halves → told ≡ ltb set (2 ^ link_count network) and can_split network (in_set set)
+    (set : ℕ) → halves.above ≡ set / 2 ^ link_count network → HalvesBy network set halves
+    → told ≡ nat_lt set (2 ^ link_count network) and can_split network (in_set set)
 
 -- 41, of every network that has passed and has these tables
 abbrev pub PartsTold : NetworkTables → HalfTables → Bool → Type 0

@@ -1,5 +1,5 @@
 -- Both halves numbered by the set of links in the first.
-use Rattle.std.specs.Prelude.{ℕ, suc, ◌≤◌, ◌<◌, Bool, not, List, eqb, length}
+use Rattle.std.specs.Prelude.{ℕ, suc, ◌≤◌, ◌<◌, Bool, not, List, ◌==◌, length}
 use Rattle.text_reader.specs.Lines.{Line}
 use Rattle.base_laws.specs.Test.{◌or◌, every}
 use Rattle.network_tables.specs.declared.Link.{Link}
@@ -15,7 +15,8 @@ use Rattle.split_tables.specs.Tables.{HalfNumbered}
 
 -- one of the links that are not in a set has signal r
 unfoldable pub outside_has : ℕ → List Link → ℕ → Bool
-outside_has set links r = not (every (length links) (λ i. in_set set i or not (eqb (signal_in links i) (suc r))))
+outside_has set links r =
+    not (every (length links) (λ i. in_set set i or not (signal_in links i == suc r)))
 
 -- the movements of a network's tables name its links
 pub record HalvesAsked (tables : NetworkTables) : Type 0 where

@@ -1,5 +1,5 @@
 -- Items that a closure is asked for, one by one, and new numbers for those that a test holds of.
-use Rattle.std.specs.Prelude.{ℕ, suc, ◌<◌, ◌≡◌, Bool, List, get_or}
+use Rattle.std.specs.Prelude.{ℕ, suc, ◌<◌, ◌≡◌, Bool, List, slice_index}
 use Rattle.base_laws.specs.Sum.{only}
 use Rattle.model_split.specs.Numbering.{rank}
 
@@ -13,4 +13,4 @@ Gives {A} post count f = (k : ℕ) (given : A) → k < count → post k given �
 
 -- those that the test holds of are numbered from 1, in their old order
 pub record Numbered (test : ℕ → Bool) (count : ℕ) (numbers : List ℕ) : Type 0 where
-  pub are : (k : ℕ) → k < count → get_or numbers k 0 ≡ only (test k) (suc (rank test k))
+  pub are : (k : ℕ) → k < count → slice_index numbers k ≡ only (test k) (suc (rank test k))

@@ -1,5 +1,5 @@
 -- The tables of one half of a network (T-14): the new number of each link, signal and movement, from 1, and 0 for what is not in the half.
-use Rattle.std.specs.Prelude.{ℕ, suc, ◌-◌, ◌≤◌, ◌<◌, ◌≡◌, Bool, not, cond, List, eqb, length, get_or}
+use Rattle.std.specs.Prelude.{ℕ, suc, ◌-◌, ◌≤◌, ◌<◌, ◌≡◌, Bool, not, if◌then◌else◌, List, ◌==◌, length, slice_index}
 use Rattle.text_reader.specs.Lines.{Line}
 use Rattle.base_laws.specs.Test.{◌and◌}
 use Rattle.base_laws.specs.Sum.{only}
@@ -12,7 +12,7 @@ use Rattle.split_tables.specs.declared.HalfTables.{HalfTables}
 
 -- what has this place in one of the tables is in the half
 unfoldable pub is_in : List ℕ → ℕ → Bool
-is_in numbers place = not (eqb (get_or numbers place 0) 0)
+is_in numbers place = not (slice_index numbers place == 0)
 
 -- by the numbers of the links, a movement is inside the half, with both its links, or a border movement, with just one
 unfoldable pub is_inside : Movement → List ℕ → Bool
@@ -20,13 +20,18 @@ is_inside movement numbers = is_in numbers (movement.from - 1) and is_in numbers
 
 unfoldable pub is_border : Movement → List ℕ → Bool
 is_border movement numbers =
-    cond (is_in numbers (movement.from - 1)) (not (is_in numbers (movement.to - 1))) (is_in numbers (movement.to - 1))
+    if is_in numbers (movement.from - 1)
+    then not (is_in numbers (movement.to - 1))
+    else is_in numbers (movement.to - 1)
 
 -- a half by its tables
 pub record HalfNumbered (network : List Line) (h : Half) (half : HalfTables) : Type 0 where
-  pub links : (i : ℕ) → i < link_count network → get_or half.links i 0 ≡ only (h.has-link i) (suc (rank h.has-link i))
-  pub signals : (r : ℕ) → r < signal_count network → get_or half.signals r 0 ≡ only (h.has-signal r) (suc (rank h.has-signal r))
-  pub movements : (j : ℕ) → j < movement_count network → get_or half.movements j 0 ≡ only (inside network h j) (suc (rank (inside network h) j))
+  pub links : (i : ℕ) → i < link_count network
+      → slice_index half.links i ≡ only (h.has-link i) (suc (rank h.has-link i))
+  pub signals : (r : ℕ) → r < signal_count network
+      → slice_index half.signals r ≡ only (h.has-signal r) (suc (rank h.has-signal r))
+  pub movements : (j : ℕ) → j < movement_count network
+      → slice_index half.movements j ≡ only (inside network h j) (suc (rank (inside network h) j))
 
 -- a movement names two links
 pub record LinksNamed (movement : Movement) : Type 0 where

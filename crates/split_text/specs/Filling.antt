@@ -1,5 +1,5 @@
 -- Numbers put into a row, one behind another.
-use Rattle.std.specs.Prelude.{ℕ, ◌+◌, ◌≤◌, ◌≡◌, List, ◌++◌, length, get_or}
+use Rattle.std.specs.Prelude.{ℕ, ◌+◌, ◌≤◌, ◌≡◌, List, ◌++◌, length, slice_index}
 use Rattle.text_reader.specs.Reading.{over}
 use Rattle.model_split.specs.Halves.{in_field}
 use Rattle.split_text.specs.declared.Row.{Row}
@@ -21,4 +21,4 @@ pub record FillAsked (count : ℕ) (row : Row) : Type 0 where
 
 -- the number of an item and what the border adds, cut to a field
 unfoldable pub raised : (ℕ → ℕ) → List ℕ → ℕ → ℕ
-raised number sums i = in_field (number i + get_or sums i 0)
+raised number sums i = in_field (number i + slice_index sums i)

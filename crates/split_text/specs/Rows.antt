@@ -1,5 +1,5 @@
 -- The lines of a half by the program's tables, and what the functions that put them require.
-use Rattle.std.specs.Prelude.{ℕ, ◌+◌, ◌*◌, ◌-◌, ◌≤◌, ◌<◌, ◌≡◌, Bool, not, cond, List, [], ◌∷◌, eqb, length, get_or, Option, Some, None}
+use Rattle.std.specs.Prelude.{ℕ, ◌+◌, ◌*◌, ◌-◌, ◌≤◌, ◌<◌, ◌≡◌, Bool, not, if◌then◌else◌, List, [], ◌∷◌, ◌==◌, length, slice_index, Option, Some, None}
 use Rattle.text_reader.specs.Lines.{Line}
 use Rattle.base_laws.specs.Indexed.{list}
 use Rattle.model.specs.Network.{max_signals, max_trams, entry, signal_line, signal}
@@ -23,7 +23,7 @@ use Rattle.split_text.specs.Filling.{raised}
 
 -- the new number of a signal, from 1; 0 for none
 unfoldable pub signal_number_in : HalfTables → ℕ → ℕ
-signal_number_in half signal = cond (eqb signal 0) 0 (get_or half.signals (signal - 1) 0)
+signal_number_in half signal = if signal == 0 then 0 else slice_index half.signals (signal - 1)
 
 -- the `N` line, with so many tram lines
 unfoldable pub count_row : Counts → ℕ → HalfTables → List ℕ
@@ -34,12 +34,18 @@ count_row counts trams half =
 -- a tram as the half has it, if it follows its signal there
 unfoldable pub tram_kept : HalfTables → Tram → Option Tram
 tram_kept half tram =
-    cond (eqb (signal_number_in half tram.signal) 0) None
-    (Some (record { signal = signal_number_in half tram.signal; phase = tram.phase; first_step = tram.first_step; last_step = tram.last_step }))
+    if signal_number_in half tram.signal == 0
+    then None
+    else Some (record {
+      signal = signal_number_in half tram.signal;
+      phase = tram.phase;
+      first_step = tram.first_step;
+      last_step = tram.last_step;
+    })
 
 -- `T` line k follows its signal into the half; its numbers there
 unfoldable pub tram_in : List Tram → HalfTables → ℕ → Bool
-tram_in trams half k = not (eqb (signal_number_in half (tram_at trams k).signal) 0)
+tram_in trams half k = not (signal_number_in half (tram_at trams k).signal == 0)
 
 unfoldable pub half_tram_row : List Tram → HalfTables → ℕ → List ℕ
 half_tram_row trams half k =
@@ -48,28 +54,26 @@ half_tram_row trams half k =
 -- a link and a movement as the half has them, if they are there
 unfoldable pub link_kept : List ℕ → HalfTables → ℕ → Link → Option Link
 link_kept rates half i link =
-    cond (eqb (get_or half.links i 0) 0) None
-    (Some
+    if slice_index half.links i == 0 then None else Some
     (record {
       capacity = link.capacity;
       travel_time = link.travel_time;
-      exit_rate = in_field (link.exit_rate + get_or rates i 0);
+      exit_rate = in_field (link.exit_rate + slice_index rates i);
       signal = signal_number_in half link.signal;
       phase_mask = link.phase_mask;
       standing = link.standing;
       waiting = link.waiting;
-    }))
+    })
 
 unfoldable pub movement_kept : HalfTables → ℕ → Movement → Option Movement
 movement_kept half j movement =
-    cond (eqb (get_or half.movements j 0) 0) None
-    (Some
+    if slice_index half.movements j == 0 then None else Some
     (record {
-      from = get_or half.links (movement.from - 1) 0;
-      to = get_or half.links (movement.to - 1) 0;
+      from = slice_index half.links (movement.from - 1);
+      to = slice_index half.links (movement.to - 1);
       rate = movement.rate;
       share = movement.share;
-    }))
+    })
 
 -- the `G` line of signal r, the `Q` line of link i, the `M` line of movement j
 unfoldable pub half_signal_row : List Line → ℕ → List ℕ
@@ -82,7 +86,9 @@ half_link_row links rates half i =
 
 unfoldable pub half_movement_row : List Movement → HalfTables → ℕ → List ℕ
 half_movement_row movements half j =
-    get_or half.links (link_in movements 0 j - 1) 0 ∷ get_or half.links (link_in movements 1 j - 1) 0 ∷ rate_in movements j ∷ share_in movements j ∷ []
+    slice_index half.links (link_in movements 0 j - 1)
+    ∷ slice_index half.links (link_in movements 1 j - 1) ∷ rate_in movements j
+    ∷ share_in movements j ∷ []
 
 -- ---- required
 pub record CountsAsked (counts : Counts) (trams : ℕ) : Type 0 where

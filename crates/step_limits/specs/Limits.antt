@@ -1,5 +1,5 @@
 -- Rules 15 and 25 to 27 at one step, and rule 16 by proportions, as tests of the program's tables. Links, movements and signals are counted from 0, a link's signal and a movement's links from 1.
-use Rattle.std.specs.Prelude.{◌≡◌, ◌↔◌, Bool, true, not, List, ◌++◌, ℕ, ◌*◌, ◌-◌, ◌<◌, ◌==◌, leb, eqb, get_or, drop}
+use Rattle.std.specs.Prelude.{◌≡◌, ◌↔◌, Bool, true, not, List, ◌++◌, ℕ, ◌*◌, ◌-◌, ◌<◌, ◌==◌, nat_le, slice_index, drop}
 use Rattle.base_laws.specs.Test.{◌or◌}
 use Rattle.model.specs.Signals.{opens}
 use Rattle.network_tables.specs.declared.Counts.{Counts}
@@ -13,23 +13,32 @@ use Rattle.step_limits.specs.declared.LimitRule.TheVariants.{Offer, ExitRate, Mo
 
 -- 15, link i: admitted is at most who is at its entry
 unfoldable pub admits_offer : Step → ℕ → Bool
-admits_offer step i = leb (admitted_in step.counts step.plan_line.now i) (offer_in step.step_line.now i)
+admits_offer step i =
+    nat_le (admitted_in step.counts step.plan_line.now i) (offer_in step.step_line.now i)
 
 -- 25, link i: let out is at most exit rate × length
 unfoldable pub lets_out_rate : Step → ℕ → Bool
-lets_out_rate step i = leb (let_out_in step.counts step.plan_line.now i) (exit_rate_in step.links.now i * length_in step.step_line.now)
+lets_out_rate step i =
+    nat_le (let_out_in step.counts step.plan_line.now i)
+    (exit_rate_in step.links.now i * length_in step.step_line.now)
 
 -- link i has no signal, or its signal shows a phase of the link's mask
 unfoldable pub is_open_in : List Link → List ℕ → ℕ → Bool
-is_open_in links phases i = eqb (signal_in links i) 0 or opens (phase_mask_in links i) (get_or phases (signal_in links i - 1) 0)
+is_open_in links phases i =
+    signal_in links i == 0
+    or opens (phase_mask_in links i) (slice_index phases (signal_in links i - 1))
 
 -- 26, movement j: it is at most its rate × length
 unfoldable pub moves_rate : Step → ℕ → Bool
-moves_rate step j = leb (moved_in step.counts step.plan_line.now j) (rate_in step.movements.now j * length_in step.step_line.now)
+moves_rate step j =
+    nat_le (moved_in step.counts step.plan_line.now j)
+    (rate_in step.movements.now j * length_in step.step_line.now)
 
 -- 27, movement j: it is 0 if its from link is shut
 unfoldable pub moves_open : Step → ℕ → Bool
-moves_open step j = is_open_in step.links.now step.phases.now (link_in step.movements.now 0 j - 1) or eqb (moved_in step.counts step.plan_line.now j) 0
+moves_open step j =
+    is_open_in step.links.now step.phases.now (link_in step.movements.now 0 j - 1)
+    or moved_in step.counts step.plan_line.now j == 0
 
 -- movement j is to its share as the movement before it is to that one's, where both leave one link
 unfoldable pub in_proportion : Step → ℕ → Bool

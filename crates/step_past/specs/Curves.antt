@@ -1,5 +1,5 @@
 -- What entered the links in the past, by the `H` lines of a network text whose forms have passed: no plan has a say in it.
-use Rattle.std.specs.Prelude.{ℕ, suc, ◌+◌, ◌*◌, ◌-◌, ◌≤◌, ◌<◌, ◌≡◌, true, List, [], Option, Some, None, length, get_or}
+use Rattle.std.specs.Prelude.{ℕ, suc, ◌+◌, ◌*◌, ◌-◌, ◌≤◌, ◌<◌, ◌≡◌, ◌^◌, true, List, [], Option, Some, None, length, slice_index, slice_index_or}
 use Rattle.text_reader.specs.Lines.{Line, lines}
 use Rattle.text_reader.specs.Reading.{Starts}
 use Rattle.model.specs.Network.{max_links, link_count, past_count, timeline_line, arrival_step}
@@ -18,7 +18,7 @@ abbrev pub no_arrival : Arrival
 no_arrival = record { step = 0; start = 0; stop = 0; place = 0 }
 
 abbrev pub arrival_at : List Arrival → ℕ → Arrival
-arrival_at arrivals i = get_or arrivals i no_arrival
+arrival_at arrivals i = slice_index_or arrivals i no_arrival
 
 -- entered and left of link i at boundary m of the timeline, at most the end of the past
 abbrev pub past_entered : List Line → ℕ → ℕ → ℕ
@@ -43,7 +43,7 @@ pub record CurveAsked (text : List ℕ) (i step : ℕ) (arrival : Arrival) : Typ
   pub few : link_count (lines text) ≤ max_links
   pub within : step < past_count (lines text)
   pub forms : PastForms (lines text)
-  pub fits : past_entered (lines text) (suc step) i < 4294967296
+  pub fits : past_entered (lines text) (suc step) i < 2 ^ 32
   pub curve-from : CurveTo text i step arrival
 
 -- .. and gives
@@ -58,7 +58,7 @@ pub record ReadAsked (text : List ℕ) (i from to : ℕ) (arrival : Arrival) : T
   pub onward : from ≤ to
   pub within : to ≤ past_count (lines text)
   pub forms : PastForms (lines text)
-  pub fits : (m : ℕ) → m ≤ to → past_entered (lines text) m i < 4294967296
+  pub fits : (m : ℕ) → m ≤ to → past_entered (lines text) m i < 2 ^ 32
   pub curve-from : CurveTo text i from arrival
 
 -- .. and gives
@@ -72,7 +72,7 @@ pub record Started (links : List Link) (before row : List ℕ) : Type 0 where
   pub size : length row ≡ length before
   pub stands : (i : ℕ) → i < length links → entered_in row i ≡ standing_in links i
   pub none_left : (i : ℕ) → i < length links → left_in row i ≡ 0
-  pub kept : (k : ℕ) → 2 * length links ≤ k → get_or row k 0 ≡ get_or before k 0
+  pub kept : (k : ℕ) → 2 * length links ≤ k → slice_index row k ≡ slice_index before k
 
 -- ---- the steps in which the links' travel times end, and the curves of those that are past ones
 -- the first n links are at their arrival steps of a boundary
@@ -134,12 +134,13 @@ pub record PastRow (network : List Line) (m : ℕ) (row : List ℕ) : Type 0 whe
 pub record PastOverflows (network : List Line) : Type 0 where
   pub link : ℕ
   pub below : link < link_count network
-  pub over : past_entered network (past_count network) link < 4294967296 → past_left network (past_count network) link < 4294967296 → ⊥
+  pub over : past_entered network (past_count network) link < 2 ^ 32 → past_left network (past_count network) link < 2 ^ 32 → ⊥
 
 -- .. and gives
 pub record PastLoaded (tables : NetworkTables) (before : List ℕ) (result : Option (Unit {0})) (row : List ℕ) (arrivals : List Arrival) : Type 0 where
   pub size : length row ≡ length before
-  pub kept : (k : ℕ) → 2 * tables.reading.counts.links ≤ k → get_or row k 0 ≡ get_or before k 0
+  pub kept :
+      (k : ℕ) → 2 * tables.reading.counts.links ≤ k → slice_index row k ≡ slice_index before k
   pub arrivals-at : ArrivalTable (lines tables.text.now) 0 arrivals
   pub row-held : result ≡ Some tt → PastRow (lines tables.text.now) (past_count (lines tables.text.now)) row
   pub curves-at : result ≡ Some tt → CurvesAt tables.text.now arrivals
@@ -150,7 +151,7 @@ pub record PastLoaded (tables : NetworkTables) (before : List ℕ) (result : Opt
 pub record MoveTables (tables : NetworkTables) : Type 0 where
   pub counted : CountsHold (lines tables.text.now) tables.reading.counts
   pub forms : PastForms (lines tables.text.now)
-  pub fits : (i : ℕ) → i < link_count (lines tables.text.now) → (m : ℕ) → m ≤ past_count (lines tables.text.now) → past_entered (lines tables.text.now) m i < 4294967296
+  pub fits : (i : ℕ) → i < link_count (lines tables.text.now) → (m : ℕ) → m ≤ past_count (lines tables.text.now) → past_entered (lines tables.text.now) m i < 2 ^ 32
 
 -- what link i waits for at an `H` line, by what it waited for at the one before
 abbrev pub arrival_after : PastLine → ℕ → Arrival → Arrival
@@ -169,7 +170,7 @@ pub record LinksAsked (line : PastLine) (tables : NetworkTables) (since first : 
   pub size : length arrivals ≡ max_links
   pub later : 1 ≤ line.step
   pub fits : (i : ℕ) → first ≤ i → i < tables.reading.counts.links → (arrival_at arrivals i).step + 1 ≡ line.step → travel_time_in tables.links.now i ≤ since
-      → (arrival_at arrivals i).stop + past_entries_in line.fields.now i < 4294967296
+      → (arrival_at arrivals i).stop + past_entries_in line.fields.now i < 2 ^ 32
 
 pub record LinksMoved (line : PastLine) (tables : NetworkTables) (since first : ℕ) (before after : List Arrival) : Type 0 where
   pub size : length after ≡ max_links

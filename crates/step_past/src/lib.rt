@@ -3,7 +3,7 @@
 // next for it. Of that line its number alone is read, or the whole line once for all links that it is next for.
 #![tactic(auto)]
 
-ghost use Rattle.std.specs.Prelude.{◌≡◌, ◌+◌, ◌*◌, ◌<◌, ◌≤◌, length};
+ghost use Rattle.std.specs.Prelude.{◌≡◌, ◌+◌, ◌*◌, ◌<◌, ◌≤◌, ◌^◌, length};
 ghost use Rattle.text_reader.specs.Lines.{lines};
 ghost use Rattle.model.specs.Network.{link_count};
 ghost use Rattle.network_tables.specs.Fields.{past_entries_in};
@@ -42,7 +42,7 @@ impl PastLine<'_> {
     // What link `i` waits for at the line, by what it waited for at the one before.
     fn after(&self, arrival: Arrival, i: usize) -> Arrival
         requires within { 1 + 2 * i < length self.now.fields.now }
-        requires fits { arrival.stop + past_entries_in self.now.fields.now i < 4294967296 }
+        requires fits { arrival.stop + past_entries_in self.now.fields.now i < 2 ^ 32 }
         ensures { result ≡ arrival_after self.now i arrival }
     {
         Arrival {

@@ -1,6 +1,6 @@
 -- The vehicles that wait at the entries, by the program's tables: one number a link, of who waited at the start or came since and was
 -- not admitted. While a step is judged, they stand in the numbers of its `S` line, added to each link's demand.
-use Rattle.std.specs.Prelude.{ℕ, suc, ◌+◌, ◌-◌, ◌≤◌, ◌<◌, ◌≡◌, List, length, get_or}
+use Rattle.std.specs.Prelude.{ℕ, suc, ◌+◌, ◌-◌, ◌≤◌, ◌<◌, ◌≡◌, ◌^◌, List, length, slice_index}
 use Rattle.text_reader.specs.Lines.{Line}
 use Rattle.model.specs.Network.{max_links, link_count, step_length}
 use Rattle.model.specs.Flows.{offered, taken}
@@ -11,7 +11,7 @@ use Rattle.network_tables.specs.Fields.{step_size, line_size, waiting_at_start_i
 
 -- who waits at the entry of link i, by the table; and who is there in a step, where its `S` line has the demand
 abbrev pub waiting_in : List ℕ → ℕ → ℕ
-waiting_in waiting i = get_or waiting i 0
+waiting_in waiting i = slice_index waiting i
 
 abbrev pub offer_in : List ℕ → ℕ → ℕ
 offer_in step i = demand_in step i
@@ -29,7 +29,7 @@ pub record FirstWaits (links : List Link) (n : ℕ) (waiting : List ℕ) : Type 
 pub record AddAsked (waiting step : List ℕ) : Type 0 where
   pub few : length waiting ≤ max_links
   pub step-size : length step ≡ step_size
-  pub fits : (i : ℕ) → i < length waiting → demand_in step i + waiting_in waiting i < 4294967296
+  pub fits : (i : ℕ) → i < length waiting → demand_in step i + waiting_in waiting i < 2 ^ 32
 
 -- .. and promises for the first so many links
 pub record Offers (links : ℕ) (waiting step result : List ℕ) : Type 0 where

@@ -3,7 +3,7 @@
 // and were not admitted.
 #![tactic(auto)]
 
-ghost use Rattle.std.specs.Prelude.{◌≡◌, ◌++◌, ◌+◌, ◌*◌, ◌-◌, ◌/◌, ◌<◌, ◌≤◌, length, take, drop};
+ghost use Rattle.std.specs.Prelude.{◌≡◌, ◌++◌, ◌+◌, ◌*◌, ◌-◌, ◌/◌, ◌<◌, ◌≤◌, ◌^◌, length, take, drop};
 ghost use Rattle.model.specs.Network.{max_links};
 ghost use Rattle.std.specs.Prelude.{sum as list_sum};
 ghost use Rattle.base_laws.specs.Sum.{sum};
@@ -124,7 +124,7 @@ pub fn write_row(ledger: &mut [u32], at: usize, row: &[u32])
 // The sum of one number a link: what a step admits or lets out on all links, or who waits at all entries.
 pub fn sum_of(numbers: &[u32]) -> u64
     requires { length numbers.now ≤ max_links }
-    ensures { (result ≡ list_sum numbers.now) × (result ≤ 4294967295 * length numbers.now) }
+    ensures { (result ≡ list_sum numbers.now) × (result ≤ (2 ^ 32 - 1) * length numbers.now) }
 {
     numbers.iter().map(|number| u64::from(*number)).sum()
 }
@@ -132,7 +132,7 @@ pub fn sum_of(numbers: &[u32]) -> u64
 // What the line of a step admits on all links, and what it lets out from all.
 pub fn all_admitted(line: &[u32], counts: Counts) -> u64
     requires { Few counts × (length line.now ≡ line_size) }
-    ensures { (result ≡ sum counts.links (admitted_in counts line.now)) × (result ≤ 4294967295 * counts.links) }
+    ensures { (result ≡ sum counts.links (admitted_in counts line.now)) × (result ≤ (2 ^ 32 - 1) * counts.links) }
 {
     let admitted_at = counts.signals;
     sum_of(&line[admitted_at..admitted_at + counts.links])
@@ -140,7 +140,7 @@ pub fn all_admitted(line: &[u32], counts: Counts) -> u64
 
 pub fn all_let_out(line: &[u32], counts: Counts) -> u64
     requires { Few counts × (length line.now ≡ line_size) }
-    ensures { (result ≡ sum counts.links (let_out_in counts line.now)) × (result ≤ 4294967295 * counts.links) }
+    ensures { (result ≡ sum counts.links (let_out_in counts line.now)) × (result ≤ (2 ^ 32 - 1) * counts.links) }
 {
     let let_out_at = counts.signals + counts.links;
     sum_of(&line[let_out_at..let_out_at + counts.links])
@@ -150,7 +150,7 @@ pub fn all_let_out(line: &[u32], counts: Counts) -> u64
 // the closure of a sum over the links, the precondition of `entered` on the row can't be shown.
 pub fn held_in(row: &[u32]) -> u64
     requires { length row.now ≤ 2 * max_links }
-    ensures { (result ≡ sum (length row.now / 2) (λ i. entered_in row.now i - left_in row.now i)) × (result ≤ 4294967295 * (length row.now / 2)) }
+    ensures { (result ≡ sum (length row.now / 2) (λ i. entered_in row.now i - left_in row.now i)) × (result ≤ (2 ^ 32 - 1) * (length row.now / 2)) }
 {
     let mut total: u64 = 0;
     for i in 0..row.len() / 2 {

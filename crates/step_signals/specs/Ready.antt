@@ -1,5 +1,5 @@
 -- Signals whose clocks can be carried through a step.
-use Rattle.std.specs.Prelude.{ℕ, ◌≤◌, ◌<◌, List, get_or}
+use Rattle.std.specs.Prelude.{ℕ, ◌≤◌, ◌<◌, List, slice_index}
 use Rattle.model.specs.declared.Signal.{Signal}
 use Rattle.network_tables.specs.Fields.{signal_at}
 
@@ -9,7 +9,7 @@ pub record Ready (s : Signal) : Type 0 where
   pub shows-phase : s.shown ≤ s.phases
   pub short-run : s.shown_for ≤ 3600
   pub short-cycle : s.cycle_clock ≤ 3600
-  pub greatest-times : (k : ℕ) → k < s.phases → get_or s.greatest k 0 ≤ 3600
+  pub greatest-times : (k : ℕ) → k < s.phases → slice_index s.greatest k ≤ 3600
   pub greatest-cycle : s.greatest_cycle ≤ 3600
 
 -- the first n signals of a table are ready

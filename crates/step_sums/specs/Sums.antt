@@ -1,5 +1,5 @@
 -- Rules 16 to 18 at one step, as tests of the program's tables: those of the step, and the rows before and after it. Links and movements are counted from 0, a movement's links from 1.
-use Rattle.std.specs.Prelude.{◌≡◌, Bool, true, cond, List, ℕ, ◌+◌, ◌*◌, ◌-◌, ◌≤◌, ◌<◌, leb, ltb, eqb, length}
+use Rattle.std.specs.Prelude.{◌≡◌, Bool, true, if◌then◌else◌, List, ℕ, ◌+◌, ◌*◌, ◌-◌, ◌≤◌, ◌<◌, nat_le, nat_lt, ◌==◌, length}
 use Rattle.network_tables.specs.declared.Counts.{Counts}
 use Rattle.network_tables.specs.Fields.{row_size, capacity_in, travel_time_in, link_in, share_in, moved_in, entered_in, left_in, entered_at}
 use Rattle.step_arrivals.specs.Arrivals.{seconds_in, elapsed_in, scaled_in}
@@ -12,33 +12,39 @@ use Rattle.step_sums.specs.declared.SumRule.TheVariants.{Share, Arrivals, Capaci
 -- 16, movement j: 1000 × the movement is at most its share × the sum of all movements from its link
 unfoldable pub keeps_share : Step → ℕ → Bool
 keeps_share step j =
-    leb (1000 * moved_in step.counts step.plan_line.now j)
+    nat_le (1000 * moved_in step.counts step.plan_line.now j)
     (share_in step.movements.now j * moved_by step.counts step.plan_line.now step.movements.now 0 step.counts.movements (link_in step.movements.now 0 j - 1))
 
 -- entered of link i at the start of the step of the timeline in which its travel time ends: of a past one as it arrived, of a later one by the ledger
 unfoldable pub entered_before : Step → ℕ → ℕ
 entered_before step i =
     let arrival = arrival_at step.arrivals.now i in
-    cond (ltb arrival.step step.counts.past) arrival.start (entered_at step.ledger.now step.counts.links (arrival.step - step.counts.past) i)
+    if nat_lt arrival.step step.counts.past
+    then arrival.start
+    else entered_at step.ledger.now step.counts.links (arrival.step - step.counts.past) i
 
 -- and at its end: by the row after the step that is judged, where it is that step
 unfoldable pub entered_after : Step → List ℕ → ℕ → ℕ
 entered_after step row i =
     let arrival = arrival_at step.arrivals.now i in
     let boundary = arrival.step - step.counts.past in
-    cond (ltb arrival.step step.counts.past) arrival.stop
-    (cond (eqb boundary step.boundary) (entered_in row i) (entered_at step.ledger.now step.counts.links (boundary + 1) i))
+    if nat_lt arrival.step step.counts.past then arrival.stop
+    else if boundary == step.boundary then entered_in row i
+    else entered_at step.ledger.now step.counts.links (boundary + 1) i
 
 -- 17, link i: what has left it by the boundary after the step is at most what has arrived, both × the length of the step in which the travel time ends
 unfoldable pub leaves_arrived : Step → List ℕ → ℕ → Bool
 leaves_arrived step row i =
     let last = (arrival_at step.arrivals.now i).step in
     let elapsed = elapsed_in step.times.now last (step.counts.past + step.boundary + 1) (travel_time_in step.links.now i) in
-    leb (left_in row i * seconds_in step.times.now last) (scaled_in (entered_before step i) (entered_after step row i) (seconds_in step.times.now last) elapsed)
+    nat_le (left_in row i * seconds_in step.times.now last)
+    (scaled_in (entered_before step i) (entered_after step row i)
+    (seconds_in step.times.now last) elapsed)
 
 -- 18, link i: entered after the step − left before it ≤ capacity
 unfoldable pub fits_capacity : Step → List ℕ → List ℕ → ℕ → Bool
-fits_capacity step previous row i = leb (entered_in row i - left_in previous i) (capacity_in step.links.now i)
+fits_capacity step previous row i =
+    nat_le (entered_in row i - left_in previous i) (capacity_in step.links.now i)
 
 -- the number of a rule, to how many items it is put, and whether it holds of one
 abbrev pub sum_rule_number : SumRule → ℕ

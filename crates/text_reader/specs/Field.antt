@@ -1,10 +1,10 @@
 -- The number that a field's bytes stand for.
-use Rattle.std.specs.Prelude.{ℕ, ◌+◌, ◌-◌, ◌*◌, Bool, true, cond, ◌&&◌, length, leb, Option, Some, None}
+use Rattle.std.specs.Prelude.{ℕ, ◌+◌, ◌-◌, ◌*◌, Bool, true, if◌then◌else◌, ◌&&◌, ◌^◌, length, nat_le, Option, Some, None}
 use mathlib.Core.List.{List, [], ◌∷◌, foldl}
 
 -- the bytes 0 to 9 in decimal
 unfoldable pub digit : ℕ → Bool
-digit b = leb 48 b && leb b 57
+digit b = nat_le 48 b && nat_le b 57
 
 -- every byte is a digit
 unfoldable pub digits : List ℕ → Bool
@@ -21,12 +21,13 @@ decimal bs = foldl shift 0 bs
 
 -- the largest number that a field may say
 abbrev pub largest : ℕ
-largest = 4_294_967_295
+largest = 2 ^ 32 - 1
 
 -- the grammar of a number: one to ten digits, at most the largest
 unfoldable pub is_numeral : List ℕ → Bool
-is_numeral bs = leb 1 (length bs) && leb (length bs) 10 && digits bs && leb (decimal bs) largest
+is_numeral bs =
+    nat_le 1 (length bs) && nat_le (length bs) 10 && digits bs && nat_le (decimal bs) largest
 
 -- what a field says
 unfoldable pub field_of : List ℕ → Option ℕ
-field_of bs = cond (is_numeral bs) (Some (decimal bs)) None
+field_of bs = if is_numeral bs then Some (decimal bs) else None

@@ -1,16 +1,16 @@
 -- Texts that differ only in padding: zeros that stand in front of numbers.
-use Rattle.std.specs.Prelude.{ℕ, ◌≡◌, ◌⊎◌, List, [], ◌∷◌, Bool, true, cond, ◌&&◌, length, drop, get_or, eqb, leb}
+use Rattle.std.specs.Prelude.{ℕ, ◌≡◌, ◌⊎◌, List, [], ◌∷◌, Bool, true, if◌then◌else◌, ◌&&◌, length, drop, slice_index_or, ◌==◌, nat_le}
 use Rattle.text_reader.specs.Field.{digits}
 use Rattle.text_reader.specs.Lines.{split}
 
 -- the bytes behind the zeros (byte 48) in front
 unfoldable pub unpadded : List ℕ → List ℕ
 unpadded [] = []
-unpadded (b ∷ bs) = cond (eqb b 48) (unpadded bs) (b ∷ bs)
+unpadded (b ∷ bs) = if b == 48 then unpadded bs else b ∷ bs
 
 -- one to ten digits
 unfoldable pub one_to_ten : List ℕ → Bool
-one_to_ten field = leb 1 (length field) && leb (length field) 10 && digits field
+one_to_ten field = nat_le 1 (length field) && nat_le (length field) 10 && digits field
 
 -- fields that differ only in padding: the same bytes, or one to ten digits each, the same behind their leading zeros
 unfoldable pub SameField : List ℕ → List ℕ → Type 0
@@ -23,7 +23,9 @@ pub data Pairwise {A : Type 0} (R : A → A → Type 0) : List A → List A → 
 
 -- lines that differ only in padding: the first fields, which say no number, are the same bytes
 unfoldable pub SameLine : List ℕ → List ℕ → Type 0
-SameLine a b = (get_or (split 9 a) 0 [] ≡ get_or (split 9 b) 0 []) × Pairwise SameField (drop 1 (split 9 a)) (drop 1 (split 9 b))
+SameLine a b =
+    (slice_index_or (split 9 a) 0 [] ≡ slice_index_or (split 9 b) 0 [])
+    × Pairwise SameField (drop 1 (split 9 a)) (drop 1 (split 9 b))
 
 -- texts that differ only in padding
 unfoldable pub SameText : List ℕ → List ℕ → Type 0

@@ -1,5 +1,5 @@
 -- What the way to the numbers of a line that has passed promises: nothing in it is tested again.
-use Rattle.std.specs.Prelude.{ℕ, ◌+◌, ◌-◌, ◌/◌, ◌≤◌, ◌<◌, ◌≡◌, ◌≢◌, true, List, [], length, drop, get_or, Some}
+use Rattle.std.specs.Prelude.{ℕ, ◌+◌, ◌-◌, ◌/◌, ◌≤◌, ◌<◌, ◌≡◌, ◌≢◌, true, List, [], length, drop, slice_index, Some}
 use Rattle.std.specs.Int.Bits.{bit_and}
 use Rattle.base_laws.specs.Sum.{sum}
 use Rattle.text_reader.specs.Field.{digit, field_of}
@@ -26,11 +26,12 @@ digit_weight b = bit_and (b / 16) 1
 
 -- the digits of n bytes from a place on
 abbrev pub digits_in : List ℕ → ℕ → ℕ → ℕ
-digits_in text at n = sum n (λ k. digit_weight (get_or text (at + k) 0))
+digits_in text at n = sum n (λ k. digit_weight (slice_index text (at + k)))
 
 -- the bytes from a place on are tabs and digits, up to the line feed that ends the line, and n fields at least follow
 pub record NumbersAhead (text : List ℕ) (at n : ℕ) : Type 0 where
-  pub plain : (k : ℕ) → at ≤ k → k + 1 < next_line text at → get_or text k 0 ≢ 9 → digit (get_or text k 0) ≡ true
+  pub plain : (k : ℕ) → at ≤ k → k + 1 < next_line text at → slice_index text k ≢ 9
+      → digit (slice_index text k) ≡ true
   pub ended : next_line text at ≤ length text
   pub enough : n ≤ length (line_at text at).fields
 

@@ -1,12 +1,13 @@
 -- Records as they are written, and the lines that they are.
-use Rattle.std.specs.Prelude.{ℕ, zero, suc, ◌+◌, ◌/◌, ◌%◌, true, cond, List, [], ◌∷◌, ◌++◌, map, ltb, Some}
+use Rattle.std.specs.Prelude.{ℕ, zero, suc, ◌+◌, ◌/◌, ◌%◌, true, if◌then◌else◌, List, [], ◌∷◌, ◌++◌, map, nat_lt, Some}
 use Rattle.std.specs.List.{flat_map}
 use Rattle.text_reader.specs.Lines.{Line}
 
 -- a number in decimal without leading zeros, of at most d + 1 digits
 unfoldable pub numeral : ℕ → ℕ → List ℕ
 numeral zero n = (48 + n % 10) ∷ []
-numeral (suc d) n = cond (ltb n 10) ((48 + n) ∷ []) (numeral d (n / 10) ++ ((48 + n % 10) ∷ []))
+numeral (suc d) n =
+    if nat_lt n 10 then (48 + n) ∷ [] else numeral d (n / 10) ++ ((48 + n % 10) ∷ [])
 
 -- a number behind a tab: one of 64 bits has at most 20 digits
 unfoldable pub field_text : ℕ → List ℕ

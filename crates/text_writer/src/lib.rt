@@ -2,7 +2,7 @@
 // bytes after it are kept.
 #![tactic(auto)]
 
-ghost use Rattle.std.specs.Prelude.{◌≡◌, ℕ, ◌+◌, ◌*◌, ◌/◌, ◌<◌, ◌≤◌, [], ◌∷◌, length};
+ghost use Rattle.std.specs.Prelude.{◌≡◌, ℕ, ◌+◌, ◌*◌, ◌/◌, ◌<◌, ◌≤◌, [], ◌∷◌, ◌^◌, ◌-◌, length};
 ghost use Rattle.text_writer.specs.Records.{numeral, field_text, field_texts, record_text};
 ghost use Rattle.text_writer.specs.Writing.{Wrote, HasRoom, Writes};
 
@@ -151,7 +151,7 @@ pub fn write_record(out: &mut [u8], at: usize, letter: u8, numbers: &[u64]) -> u
 
 // How long a record of these numbers is, whatever its letter.
 pub fn record_length(numbers: &[u64]) -> usize
-    requires { 2 + 21 * length numbers.now ≤ 18_446_744_073_709_551_615 }
+    requires { 2 + 21 * length numbers.now ≤ 2 ^ 64 - 1 }
     ensures { (letter : ℕ) → result ≡ length (record_text letter numbers.now) }
 {
     2 + numbers

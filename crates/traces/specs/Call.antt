@@ -1,5 +1,5 @@
 -- The call `step_vehicles` (T-13): its refusals, its answer, and the places after it.
-use Rattle.std.specs.Prelude.{ℕ, Bool, ◌&&◌, not, List, [], ◌∷◌, leb, eqb, length, pos, Float, Ok, Err}
+use Rattle.std.specs.Prelude.{ℕ, Bool, ◌&&◌, not, List, [], ◌∷◌, nat_le, ◌==◌, length, pos, Float, Ok, Err}
 use Rattle.std.specs.List.{list_all}
 use Rattle.std.specs.Float.{binary64}
 use Rattle.std.specs.Float.Ieee.{neg, lt, le, of_int}
@@ -26,7 +26,8 @@ valid_values places advances lines spacing = list_all valid_place places && list
 
 -- 39: at most 64 vehicles and 64 lines, and one advance for each vehicle
 unfoldable pub valid_counts : List Float → List Float → List Float → Bool
-valid_counts places advances lines = leb (length places) 64 && leb (length lines) 64 && eqb (length advances) (length places)
+valid_counts places advances lines =
+    nat_le (length places) 64 && nat_le (length lines) 64 && length advances == length places
 
 -- 39 comes before 38; neither names a line or an item
 unfoldable pub step_checks : List Float → List Float → List Float → Float → Checks

@@ -1,5 +1,5 @@
 -- What a step keeps (T-13), a field for each sentence, in the words of the call alone.
-use Rattle.std.specs.Prelude.{ℕ, suc, ◌<◌, ◌≡◌, true, List, length, get_or, Float, Ok, Err}
+use Rattle.std.specs.Prelude.{ℕ, suc, ◌<◌, ◌≡◌, true, List, length, slice_index_or, Float, Ok, Err}
 use Rattle.std.specs.Float.{nan, binary64}
 use Rattle.std.specs.Float.Ieee.{add, sub, lt, le}
 use Rattle.std.specs.Float.Ieee.Scale.{finite}
@@ -12,15 +12,24 @@ pub record Keeps (places advances lines : List Float) (spacing : Float) (after :
   -- there are as many vehicles as before
   pub same_count : length after ≡ length places
   -- no vehicle moves back
-  pub not_back : (i : ℕ) → i < length places → le (get_or places i nan) (get_or after i nan) ≡ true
+  pub not_back : (i : ℕ) → i < length places
+      → le (slice_index_or places i nan) (slice_index_or after i nan) ≡ true
   -- none crosses a red line that was at or ahead of it
-  pub not-across : (i j : ℕ) → i < length places → j < length lines → le (get_or places i nan) (get_or lines j nan) ≡ true → le (get_or after i nan) (get_or lines j nan) ≡ true
+  pub not-across : (i j : ℕ) → i < length places → j < length lines
+      → le (slice_index_or places i nan) (slice_index_or lines j nan) ≡ true
+      → le (slice_index_or after i nan) (slice_index_or lines j nan) ≡ true
   -- one that moves behind a leader ends no further than the leader's last place minus the spacing, rounded once
-  pub behind-leader : (i : ℕ) → suc i < length places → lt (get_or places (suc i) nan) (get_or after (suc i) nan) ≡ true → le (get_or after (suc i) nan) (sub binary64 (get_or places i nan) spacing) ≡ true
+  pub behind-leader : (i : ℕ) → suc i < length places
+      → lt (slice_index_or places (suc i) nan) (slice_index_or after (suc i) nan) ≡ true
+      → le (slice_index_or after (suc i) nan)
+      (sub binary64 (slice_index_or places i nan) spacing) ≡ true
   -- a vehicle that moves goes no further than its place plus its advance, rounded once
-  pub within-advance : (i : ℕ) → i < length places → lt (get_or places i nan) (get_or after i nan) ≡ true → le (get_or after i nan) (add binary64 (get_or places i nan) (get_or advances i nan)) ≡ true
+  pub within-advance : (i : ℕ) → i < length places
+      → lt (slice_index_or places i nan) (slice_index_or after i nan) ≡ true
+      → le (slice_index_or after i nan)
+      (add binary64 (slice_index_or places i nan) (slice_index_or advances i nan)) ≡ true
   -- every place is finite
-  pub stays-finite : (i : ℕ) → i < length places → finite (get_or after i nan) ≡ true
+  pub stays-finite : (i : ℕ) → i < length places → finite (slice_index_or after i nan) ≡ true
 
 -- a step that is not refused keeps all that, and a refusal's number is one that can arise
 pub record StepKeeps (places advances lines : List Float) (spacing : Float) (answer : Verdict) (after : List Float) : Type 0 where
