@@ -16,7 +16,7 @@ mod limits;
 mod listings;
 mod network_values;
 mod padding;
-mod paper;
+mod corridor;
 mod past;
 mod past_states;
 mod plan_breaches;
@@ -588,10 +588,10 @@ fn draw_traffic(random: &mut Random) -> Traffic {
 /// The stored set of cases.
 pub fn stored_cases(seed: u64) -> Vec<Case> {
     let mut maker = Maker::new(seed);
-    paper::cases(&mut maker);
+    corridor::cases(&mut maker);
     padding::padded_copies(&mut maker, 0, 40);
-    paper::extreme_numbers(&mut maker);
-    paper::cuts(&mut maker);
+    corridor::extreme_numbers(&mut maker);
+    corridor::cuts(&mut maker);
     special::share_times_sum(&mut maker);
     special::highest_curves(&mut maker);
     special::all_demand_at_once(&mut maker);

@@ -1,7 +1,7 @@
 //! Reference implementation of the Queue Transmission Model plan check.
 //!
-//! Written from the scope paper alone and kept plain on purpose: no speed, no
-//! cleverness, one small function per sentence of the paper. All arithmetic is
+//! Written from what was asked for alone and kept plain on purpose: no speed, no
+//! cleverness, one small function for each sentence. All arithmetic is
 //! on `u64`; every number of a text is below 2^32 and every sum is bounded by
 //! limits that have been judged before, so nothing can overflow.
 

@@ -27,7 +27,7 @@ impl Tram {
     }
 }
 
-/// A `G` line: one traffic signal (the paper's light).
+/// A `G` line: one traffic signal.
 #[derive(Clone, Debug, PartialEq, Eq)]
 pub struct Signal {
     pub least_cycle: u64,

@@ -1,4 +1,4 @@
-//! What T-09 states: a plan of K lines is accepted exactly when both parts are,
+//! What is stated of carrying on: a plan of K lines is accepted exactly when both parts are,
 //! at every boundary; and more that follows from it.
 
 use plancheck_reference::cases::{

@@ -1,4 +1,4 @@
-//! What T-11 states of two plans, and its refusals.
+//! What is stated of two plans, and its refusals.
 
 use plancheck_reference::cases::{draw_full_size, draw_small_size, Random, Scenario, Traffic};
 use plancheck_reference::{check_plan, compare_plans, Comparison, Order, Refusal, RefusedPlan};

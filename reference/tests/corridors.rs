@@ -1,4 +1,4 @@
-//! What T-12 states, tried on random corridors, and that the stored ones leave
+//! What is stated of cells, tried on random corridors, and that the stored ones leave
 //! nothing out.
 
 use plancheck_reference::cases::{draw_corridor, stored_corridors, Random};

@@ -1,4 +1,4 @@
-//! What T-10 states of the plans that it writes: their masks keep the sheet.
+//! What is stated of the plans that it writes: their masks keep the sheet.
 
 use plancheck_reference::cases::{draw_full_size, draw_small_size, Random, Scenario, Traffic};
 use plancheck_reference::{check_sheet, plan_from_sheet, Network};

@@ -1,4 +1,4 @@
-//! What T-14 states: the whole is accepted exactly when both halves are and the
+//! What is stated of halves: the whole is accepted exactly when both halves are and the
 //! border volumes match; totals and rows of the halves are those of the whole. And
 //! that the stored splits leave nothing out.
 

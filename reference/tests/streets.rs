@@ -1,4 +1,4 @@
-//! What T-13 states, tried on random streets, and that the stored ones leave nothing
+//! What is stated of a step of vehicles, tried on random streets, and that the stored ones leave nothing
 //! out.
 
 use plancheck_reference::cases::{draw_street, stored_streets, Random, Street};

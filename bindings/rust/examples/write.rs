@@ -1,4 +1,4 @@
-//! Builds the corridor of the paper by types, and a plan for it, and writes both as a folder that `check` judges:
+//! Builds the corridor of `examples/corridor` by types, and a plan for it, and writes both as a folder that `check` judges:
 //!
 //! ```text
 //! cargo run --example write -- FOLDER

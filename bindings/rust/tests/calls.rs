@@ -1,4 +1,4 @@
-//! What the calls decline beyond the paper's cases, and the words of a refusal.
+//! What the calls decline beyond the corridor's cases, and the words of a refusal.
 
 use plancheck::{
     check_network, check_plan, link_state, required_ledger_len, ItemKind, LinkState, Refusal, Text, MAX_LEDGER_LEN,

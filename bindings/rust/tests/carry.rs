@@ -1,4 +1,4 @@
-//! Carrying on from a boundary, with the paper's corridor.
+//! Carrying on from a boundary, with the corridor.
 
 use plancheck::{carry_on, check_plan, Reason, MAX_LEDGER_LEN, MAX_NETWORK_TEXT_LEN};
 

@@ -6,7 +6,7 @@ use Rattle.base_search.specs.declared.Refusal.{Refusal}
 abbrev pub Verdict : Type 0
 Verdict = Result (Unit {0}) Refusal
 
--- the refusal with the paper's number, line and item
+-- the refusal with its number, line and item
 abbrev pub refusal : ℕ → ℕ → ℕ → Refusal
 refusal number line item = record { number = number; line = line; item = item }
 

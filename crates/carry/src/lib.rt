@@ -1,4 +1,4 @@
-// Carrying on from a boundary (T-09): the call `carry_on`. The text is written twice: first where there is no room,
+// Carrying on from a boundary: the call `carry_on`. The text is written twice: first where there is no room,
 // which measures it, then into the buffer if it fits.
 #![tactic(auto)]
 

@@ -1,4 +1,4 @@
--- The call `run_cells` (T-12): its answer, the final volumes, and what it keeps.
+-- The call `run_cells`: its answer, the final volumes, and what it keeps.
 use Rattle.std.specs.Prelude.{ℕ, ◌+◌, ◌-◌, ◌≤◌, ◌<◌, ◌≡◌, List, [], ◌∷◌, ◌++◌, length, slice_index, replicate, sum, Result, Ok, Err}
 use Rattle.base_search.specs.declared.Refusal.{Refusal}
 use Rattle.base_search.specs.Checks.{Verdict, verdict}

@@ -1,4 +1,4 @@
-// Runs a corridor in cells (T-12): the call `run_cells`.
+// Runs a corridor in cells: the call `run_cells`.
 #![tactic(auto)]
 
 ghost use Rattle.std.specs.Prelude.{◌≡◌, IfOk};

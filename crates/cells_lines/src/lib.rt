@@ -1,4 +1,4 @@
-// The text of a corridor in cells (T-12): its `C`, `X` and `D` lines, read into tables; refusals 36 and 37.
+// The text of a corridor in cells: its `C`, `X` and `D` lines, read into tables; refusals 36 and 37.
 #![tactic(auto)]
 
 ghost use Rattle.std.specs.Prelude.{◌≡◌, ◌<◌, ◌==◌, ◌^◌, false, length, IfOk, IfErr};

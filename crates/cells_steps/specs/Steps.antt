@@ -1,4 +1,4 @@
--- The steps of a chain of cells (T-12). Cells and borders are counted from 0: border i is the way into cell i, the last border is the way out.
+-- The steps of a chain of cells. Cells and borders are counted from 0: border i is the way into cell i, the last border is the way out.
 use Rattle.std.specs.Prelude.{ℕ, zero, suc, ◌+◌, ◌-◌, ◌*◌, ◌/◌, ◌≤◌, ◌<◌, min, ◌≡◌, if◌then◌else◌, List, [], ◌∷◌, nat_lt, length, slice_index, slice_index_or}
 use Rattle.base_laws.specs.Indexed.{list}
 use Rattle.cells_steps.specs.declared.Cell.{Cell}

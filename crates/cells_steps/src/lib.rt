@@ -1,4 +1,4 @@
-// The steps of a chain of cells over lent volumes (T-12). All flows of a step use the volumes before it.
+// The steps of a chain of cells over lent volumes. All flows of a step use the volumes before it.
 #![tactic(auto)]
 
 ghost use Rattle.std.specs.Prelude.{◌≡◌, ◌≤◌, length};

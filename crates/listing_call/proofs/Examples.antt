@@ -1,4 +1,4 @@
--- The call on listings for the paper's corridor, computed.
+-- The call on listings for the corridor, computed.
 use Rattle.base_laws.proofs.Kit.{ℕ, ◌≡◌, refl, List, [], ◌∷◌, map}
 use Prim.Native.String.{String}
 use Rattle.base_search.specs.Checks.{refusal, verdict, Verdict}
@@ -20,7 +20,7 @@ writes listing = plan_text (lines (bytes the_network)) (entries (bytes listing))
 abbrev judged : ℕ → String → Verdict
 judged size listing = verdict (write_checks (lines (bytes the_network)) (entries (bytes listing)) size)
 
--- the plan of the paper, its lines in any order: 5000 in 10 seconds is 0.5 vehicles a second
+-- the corridor's plan, its lines in any order: 5000 in 10 seconds is 0.5 vehicles a second
 abbrev the_listing : String
 the_listing = "m_1_2 0.3\np_1_1_1 1\np_1_2_4 1.000\np_1_1_3 1\np_1_1_2 1\np_1_2_1 0\no_2_4 00.2\ni_1_1 0.50\nm_1_3 0.2\no_2_3 0.300000\n"
 

@@ -1,4 +1,4 @@
--- What the call promises, and the theorem of the request: reading the written plan gives just the listing's numbers.
+-- What the call promises, and its theorem: reading the written plan gives just the listing's numbers.
 use Rattle.std.specs.Prelude.{ℕ, ◌+◌, ◌*◌, ◌-◌, ◌/◌, ◌%◌, ◌^◌, ◌≤◌, ◌<◌, ◌≡◌, true, List, length, take, Some, Result, Ok, Err}
 use Rattle.base_search.specs.declared.Refusal.{Refusal}
 use Rattle.base_search.specs.Numbers.{CanArise}

@@ -1,4 +1,4 @@
--- What the writing of a listing's plan promises. Not of the request.
+-- What the writing of a listing's plan promises.
 use Rattle.std.specs.Prelude.{ℕ, ◌≡◌, List, length, Result, Ok, Err}
 use Rattle.base_search.specs.declared.Refusal.{Refusal}
 use Rattle.base_search.specs.Checks.{each, verdict}

@@ -1,4 +1,4 @@
-// Plans straight from the solver (T-01): reads a listing for a network, and writes its plan text.
+// Plans straight from the solver: reads a listing for a network, and writes its plan text.
 #![tactic(auto)]
 
 ghost use Rattle.std.specs.Prelude.{◌≡◌, ◌+◌, ◌/◌, ◌^◌, ◌≤◌, ◌<◌, length, eqb, not, IfSome, IfOk};

@@ -1,4 +1,4 @@
--- What a line of a solver's listing says (request T-01): a variable, a space and a decimal. All that is above the reader is stated over the list of entries alone,
+-- What a line of a solver's listing says: a variable, a space and a decimal. All that is above the reader is stated over the list of entries alone,
 -- never over bytes.
 use Rattle.std.specs.Prelude.{ℕ, ◌==◌, ◌+◌, ◌-◌, ◌*◌, ◌^◌, ◌≡◌, List, [], ◌∷◌, Bool, if◌then◌else◌, ◌&&◌, length, take, drop, slice_index, slice_index_or, nat_le, nat_lt, Option, Some, None, option_map, option_and_then}
 use Rattle.std.specs.List.{position, position_or_len, slice_split}

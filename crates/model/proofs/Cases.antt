@@ -1,4 +1,4 @@
--- The paper's cases c1 to c11, by one computation on the definitions.
+-- The cases c1 to c11, by one computation on the definitions.
 use Rattle.base_laws.proofs.Kit.{◌≡◌, refl, List, [], ◌∷◌, map}
 use Rattle.model.specs.Report.{report}
 use Rattle.model.proofs.Opened.{opened}

@@ -1,4 +1,4 @@
--- The plan that an empty text stands for (T-07): what its lines say, and that it is answered as its written text is.
+-- The plan that an empty text stands for: what its lines say, and that it is answered as its written text is.
 use Rattle.base_laws.proofs.Kit.{ℕ, zero, suc, ◌+◌, ◌*◌, ◌-◌, ◌^◌, ◌≤◌, ◌<◌, ◌≡◌, refl, sym, ap, ◌∙◌, Bool, true, false, cond, List, [], ◌∷◌, dec_lt, arith, lt-ltb, leb-true, le-ltb, ltb, length, List·getD-eq-default}
 use Rattle.base_search.specs.declared.Refusal.{Refusal}
 use Rattle.base_search.specs.Checks.{verdict, Verdict}
@@ -102,7 +102,7 @@ module _ (network : List Line) where
             phase-of-bit (entry (hold_lines network) n r) (signal network r).phases (signal network r).shown s.0 s.1 (hold-mask n r (omega arith) l)
         go false before = before
 
--- ---- the theorem of T-07
+-- ---- the theorem of holding
 same-meant : (network : List Line) → ValidNetwork network → meant network (lines []) ≡ meant network (lines (hold_text network))
 unfolding meant
 same-meant network valid =

@@ -1,4 +1,4 @@
--- To unfold `opened` is to unfold every definition of the paper, for a proof by computation.
+-- To unfold `opened` is to unfold every definition of the model, for a proof by computation.
 use Rattle.base_search.specs.Checks.{or_else, first_from, checked, verdict, table}
 use Rattle.text_reader.proofs.Opened.{opened as lines_opened}
 use Rattle.text_writer.specs.Records.{numeral, field_text, field_texts, record_text, record_texts, record_line, record_lines}

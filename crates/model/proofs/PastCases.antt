@@ -1,4 +1,4 @@
--- Networks with a past, and with vehicles that wait at the start (T-09), by computation on the definitions.
+-- Networks with a past, and with vehicles that wait at the start, by computation on the definitions.
 use Rattle.base_laws.proofs.Kit.{◌≡◌, refl, List, [], ◌∷◌, map, ℕ, zero, suc, replicate}
 use Prim.Native.String.{String, ◌++◌}
 use Rattle.text_reader.specs.Lines.{lines}

@@ -1,4 +1,4 @@
--- Texts with trams (T-08), by computation on the definitions.
+-- Texts with trams, by computation on the definitions.
 use Rattle.base_laws.proofs.Kit.{◌≡◌, refl, List, [], ◌∷◌, map, replicate}
 use Prim.Native.String.{String, ◌++◌}
 use Rattle.text_reader.specs.Lines.{lines}

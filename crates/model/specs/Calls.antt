@@ -11,7 +11,7 @@ use Rattle.model.specs.declared.LinkState.{LinkState}
 use Rattle.base_search.specs.declared.Refusal.{Refusal}
 use Rattle.model.specs.declared.Totals.{Totals}
 
--- the state of a link that has so many queued (the paper's standing) and in transit (its moving)
+-- the state of a link that has so many queued and in transit
 abbrev pub state_of : ℕ → ℕ → LinkState
 state_of queued in_transit = record { queued = queued; in_transit = in_transit }
 

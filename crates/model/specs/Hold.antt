@@ -1,4 +1,4 @@
--- What a plan text stands for (T-07): an empty one means that the network holds.
+-- What a plan text stands for: an empty one means that the network holds.
 use Rattle.std.specs.Prelude.{ℕ, ◌+◌, ◌*◌, ◌-◌, ◌^◌, ◌≡◌, List, [], ◌∷◌, nat_lt, length, Result}
 use Rattle.text_reader.specs.Lines.{Line, lines}
 use Rattle.text_writer.specs.Records.{record_texts, record_lines}
@@ -33,7 +33,7 @@ module _ (network : List Line) where
 abbrev pub plan_of : List ℕ → List ℕ → List Line
 plan_of network_text plan_text = meant (lines network_text) (lines plan_text)
 
--- The theorem of T-07, of a plan's check with the ledger before and after it: an empty text gets the answer and the ledger of the plan that holds, written out.
+-- The theorem of holding, of a plan's check with the ledger before and after it: an empty text gets the answer and the ledger of the plan that holds, written out.
 pub record EmptyHolds (network_text plan_text before after : List ℕ) (answer : Result Totals Refusal) : Type 0 where
   pub answered : length plan_text ≡ 0 → answer ≡ check_plan (lines network_text) (plan_of network_text (hold_text (lines network_text))) (length before)
   pub rows : length plan_text ≡ 0 → after ≡ ledger_after (lines network_text) (plan_of network_text (hold_text (lines network_text))) before

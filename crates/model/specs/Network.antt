@@ -1,4 +1,4 @@
--- What the lines of a network text say ("The two texts"). Lines, signals, links, movements and steps are counted from 0 here, phases from 1.
+-- What the lines of a network text say. Lines, signals, links, movements and steps are counted from 0 here, phases from 1.
 -- The timeline is the past steps (`H` lines) and behind them the plan's (`S` lines), lines whose first number is a length. Step m of the timeline leads from its
 -- boundary m to m + 1; step n and boundary n of the plan are its step and boundary `on_timeline n`.
 use Rattle.std.specs.Prelude.{ℕ, zero, suc, ◌+◌, ◌*◌, ◌-◌, List, [], ◌∷◌, if◌then◌else◌, Bool, nat_le, ◌==◌, slice_index_or, take, drop}
@@ -36,7 +36,7 @@ entry text i k = number (slice_index_or text i no_line) k
 unfoldable pub covers : Line → ℕ → ℕ → Bool
 covers tram r n = number tram 0 == suc r and within (number tram 2) (suc n) (number tram 3)
 
--- the phase that a tram asks of signal r in step n (C17, C18); 0 in an ordinary step
+-- the phase that a tram asks of signal r in step n; 0 in an ordinary step
 unfoldable pub tram_phase : List Line → ℕ → ℕ → ℕ
 tram_phase [] r n = 0
 tram_phase (tram ∷ more) r n = if covers tram r n then number tram 1 else tram_phase more r n
@@ -123,7 +123,7 @@ module _ (network : List Line) where
   unfoldable pub phase_mask : ℕ → ℕ
   phase_mask i = entry network (link_line i) 4
 
-  -- what stood on it at the start of the timeline, and what waits outside at boundary 0 (T-09)
+  -- what stood on it at the start of the timeline, and what waits outside at boundary 0
   unfoldable pub standing : ℕ → ℕ
   standing i = entry network (link_line i) 5
 

@@ -136,7 +136,7 @@ module _ (network plan : List Line) (n : ℕ) where
   unfoldable pub rule10 : ℕ → Bool
   rule10 r = shows_one_phase (shown_in network plan n r)
 
-  -- 29 (C17): in a tram's step its phase is shown
+  -- 29: in a tram's step its phase is shown
   unfoldable pub rule29 : ℕ → Bool
   rule29 r = ordinary network n r or shown_in network plan n r == tram_phase (trams network) r n
 
@@ -153,32 +153,32 @@ module _ (network plan : List Line) (n : ℕ) where
   unfoldable pub rule14 : ℕ → Bool
   rule14 r = not (ordinary network n r) or keeps_cycle (signal_at network plan n r) (shown_in network plan n r) (step_length network n)
 
-  -- 15 (C2), link i: admitted by the step's end is at most what has come to the entry by then
+  -- 15, link i: admitted by the step's end is at most what has come to the entry by then
   unfoldable pub rule15 : ℕ → Bool
   rule15 i = nat_le (taken network plan (suc n) i) (offered network (suc n) i)
 
-  -- 25 (C2), link i: let out is at most exit rate × length
+  -- 25, link i: let out is at most exit rate × length
   unfoldable pub rule25 : ℕ → Bool
   rule25 i = nat_le (let_out network plan n i) (exit_rate network i * step_length network n)
 
-  -- 26 (C2), movement j: it is at most its rate × length
+  -- 26, movement j: it is at most its rate × length
   unfoldable pub rule26 : ℕ → Bool
   rule26 j = nat_le (moved network plan n j) (rate network j * step_length network n)
 
-  -- 27 (C2), movement j: it is 0 if its from link is shut
+  -- 27, movement j: it is 0 if its from link is shut
   unfoldable pub rule27 : ℕ → Bool
   rule27 j = is_open network plan n (from_link network j - 1) or moved network plan n j == 0
 
-  -- 16 (C1), movement j: 1000 × the movement is at most its share × the sum of all movements from its link
+  -- 16, movement j: 1000 × the movement is at most its share × the sum of all movements from its link
   unfoldable pub rule16 : ℕ → Bool
   rule16 j =
       nat_le (1000 * moved network plan n j)
       (share network j * moved_from network plan n (from_link network j - 1))
 
-  -- 17 (C5), link i: left(n) ≤ arrived(n), unrounded
+  -- 17, link i: left(n) ≤ arrived(n), unrounded
   unfoldable pub rule17 : ℕ → Bool
   rule17 i = has_arrived network plan (left network plan (suc n) i) (suc n) i
 
-  -- 18 (C6), link i: entered(n) − left(n−1) ≤ capacity. Space freed in a step counts from the next.
+  -- 18, link i: entered(n) − left(n−1) ≤ capacity. Space freed in a step counts from the next.
   unfoldable pub rule18 : ℕ → Bool
   rule18 i = nat_le (entered network plan (suc n) i - left network plan n i) (capacity network i)

@@ -18,7 +18,7 @@ least_time s q = slice_index s.least (q - 1)
 abbrev pub greatest_time : Signal → ℕ → ℕ
 greatest_time s q = slice_index s.greatest (q - 1)
 
--- the phase after phase k of P, by cases (C8): after P comes 1, after any other k comes k + 1
+-- the phase after phase k of P, by cases: after P comes 1, after any other k comes k + 1
 abbrev pub phase_after : ℕ → ℕ → ℕ
 phase_after P k = if k == P then 1 else k + 1
 
@@ -40,7 +40,7 @@ pub record PhaseOrder : Type 0 where
 abbrev pub begins_cycle : Signal → ℕ → Bool
 begins_cycle s q = q == 1 && not (s.shown == 1)
 
--- the seconds of the run (the paper's word for how long a phase has shown), after a step of so many seconds that shows q
+-- the seconds of the run, which is how long a phase has shown, after a step of so many seconds that shows q
 abbrev pub shown_for_after : Signal → ℕ → ℕ → ℕ
 shown_for_after s q seconds = if q == s.shown then s.shown_for + seconds else seconds
 
@@ -48,23 +48,23 @@ shown_for_after s q seconds = if q == s.shown then s.shown_for + seconds else se
 abbrev pub clock_after : Signal → ℕ → ℕ → ℕ
 clock_after s q seconds = if begins_cycle s q then seconds else s.cycle_clock + seconds
 
--- 10 (C7): a signal's mask has exactly one bit set, and it is one of its P phases
+-- 10: a signal's mask has exactly one bit set, and it is one of its P phases
 abbrev pub shows_one_phase : ℕ → Bool
 shows_one_phase q = nat_le 1 q
 
--- 11 (C8): the phase is that of the step before or the next
+-- 11: the phase is that of the step before or the next
 abbrev pub keeps_order : Signal → ℕ → Bool
 keeps_order s q = q == s.shown || q == next_phase s
 
--- 12 (C14): a phase that is left has shown at least its least time
+-- 12: a phase that is left has shown at least its least time
 abbrev pub keeps_least_time : Signal → ℕ → Bool
 keeps_least_time s q = q == s.shown || nat_le (least_time s s.shown) s.shown_for
 
--- 13 (C9 to C13): a run's seconds, this step included, are at most its greatest time
+-- 13: a run's seconds, this step included, are at most its greatest time
 abbrev pub keeps_greatest_time : Signal → ℕ → ℕ → Bool
 keeps_greatest_time s q seconds = nat_le (shown_for_after s q seconds) (greatest_time s q)
 
--- 14 (C15, C16): when phase 1 begins again, the clock is at least the least cycle; after each step it is at most the greatest cycle
+-- 14: when phase 1 begins again, the clock is at least the least cycle; after each step it is at most the greatest cycle
 abbrev pub keeps_cycle : Signal → ℕ → ℕ → Bool
 keeps_cycle s q seconds =
     (not (begins_cycle s q) || nat_le s.least_cycle s.cycle_clock)

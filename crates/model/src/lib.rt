@@ -10,7 +10,7 @@ pub const MAX_PHASES: usize = 8;
 // How many numbers a `G` line has, with `MAX_PHASES` phases.
 pub const SIGNAL_FIELDS: usize = 6 + 2 * MAX_PHASES;
 
-// A signal (the paper's light): its `G` line, with the phase that it shows, for how many seconds, and the seconds since
+// A signal: its `G` line, with the phase that it shows, for how many seconds, and the seconds since
 // phase 1 last began. `least` and `greatest` have phase k's times at k - 1. The type does not say that it has at most 8
 // phases: it is made from any `G` line, and judged then (refusal 3).
 #[derive(Clone, Copy, Default)]
@@ -104,7 +104,7 @@ pub struct Totals {
     pub doubled_time: u64,
 }
 
-// The state of one link: queued and in transit, the paper's standing and moving.
+// The state of one link: queued and in transit.
 #[derive(Clone, Copy)]
 pub struct LinkState {
     pub queued: u32,

@@ -1,4 +1,4 @@
--- The theorem of T-09, whole.
+-- The theorem of carrying on, whole.
 use Rattle.base_laws.proofs.Kit.{◌≡◌, ◌∙◌, ◌↔◌, List, [], ◌++◌, ℕ, ◌+◌, ◌-◌, ◌≤◌, ◌<◌, arith, length, take, drop, leb-true, eqb-true}
 use Rattle.base_search.specs.Checks.{verdict, Hold}
 use Rattle.base_search.proofs.Laws.{hold-of-passes, passes-of-hold}

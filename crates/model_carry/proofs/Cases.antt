@@ -1,4 +1,4 @@
--- The corridor of the paper and other networks carried on, by computation on the definitions.
+-- The corridor and other networks carried on, by computation on the definitions.
 use Rattle.base_laws.proofs.Kit.{◌≡◌, refl, List, [], ◌∷◌, map, ℕ, replicate}
 use Prim.Native.String.{String}
 use Prim.Native.String as string

@@ -1,4 +1,4 @@
--- Where the theorem of T-09 would fail under another reading, by computation on the definitions.
+-- Where the theorem of carrying on would fail under another reading, by computation on the definitions.
 use Rattle.base_laws.proofs.Kit.{◌≡◌, refl, List, take, drop}
 use Prim.Native.String.{String, ◌++◌}
 use Rattle.base_search.specs.Checks.{refusal, verdict, Verdict}
@@ -46,7 +46,7 @@ pub judged-whole-trams : (judged backwards still ≡ Err (refusal 28 2 0))
 unfolding opened
 judged-whole-trams = (refl, refl, refl)
 
--- The plan has K lines. One of just b lines is refused whole, but nothing is left of it, and an empty plan means hold (T-07).
+-- The plan has K lines. One of just b lines is refused whole, but nothing is left of it, and an empty plan means hold.
 abbrev quiet : List Line
 quiet = read "N\t1\t0\t0\t2\t0\t0\nQ\t100\t10\t0\t0\t0\t0\t0\nS\t10\t0\nS\t10\t0\n"
 

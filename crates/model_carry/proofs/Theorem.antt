@@ -1,4 +1,4 @@
--- The theorem of T-09.
+-- The theorem of carrying on.
 use Rattle.base_laws.proofs.Kit.{◌≡◌, refl, sym, ap, ap₂, ◌∙◌, ◌↔◌, List, [], ℕ, suc, ◌+◌, ◌*◌, ◌-◌, ◌≤◌, ◌<◌, mul-le-mul_right, arith, length, get_or, take, drop, length-drop, get_or-take, get_or-drop, length-take-le, le-leb, eq-eqb}
 use Rattle.base_search.specs.Checks.{or_else, first_from, verdict, Hold, Verdict}
 use Rattle.base_search.proofs.Laws.{or-else-first, or-else-second, or-else-passes, or-else-refused, first-split, first-same, first-all, checked-passes, hold-of-passes, passes-of-hold}

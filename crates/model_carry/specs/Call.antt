@@ -13,7 +13,7 @@ use Rattle.model_text.specs.Answers.{text_answer, bytes_after}
 use Rattle.model_carry.specs.Part.{cut, carried_text}
 use Rattle.base_search.specs.declared.Refusal.{Refusal}
 
--- the lines of a plan text; an empty one means that the cut network holds (T-07)
+-- the lines of a plan text; an empty one means that the cut network holds
 abbrev pub planned_on : List Line → ℕ → List ℕ → List Line
 planned_on network b plan_text = meant (cut network b) (lines plan_text)
 

@@ -1,4 +1,4 @@
--- The theorem of T-09.
+-- The theorem of carrying on.
 use Rattle.std.specs.Prelude.{ℕ, suc, ◌+◌, ◌*◌, ◌-◌, ◌≤◌, ◌<◌, ◌≡◌, ◌↔◌, List, [], ◌++◌, length, take, drop, Result, Ok, Err}
 use Rattle.base_search.specs.declared.Refusal.{Refusal}
 use Rattle.base_search.specs.Checks.{refusal, or_else, verdict, Hold, Verdict}
@@ -54,7 +54,7 @@ pub record CarriesOn (network : List Line) : Type 0 where
       ≡ or_else (verdict (carry_checks network (take b plan) b size room)) (later b (verdict (plan_checks (next network (take b plan) b) (drop b plan) size)))
   -- a network that is carried on is valid
   pub valid : (plan : List Line) (b size room : ℕ) → Carries network plan b size room → verdict (network_checks (next network plan b)) ≡ Ok tt
-  -- an empty plan text, which means hold (T-07), is accepted exactly when it is on the cut network and on the carried one
+  -- an empty plan text, which means hold, is accepted exactly when it is on the cut network and on the carried one
   pub held : (b size room : ℕ) → Parted network (meant network []) b size room
       → Accepts network (meant network []) size
       ↔ (Carries network (meant (cut network b) []) b size room × Accepts (next network (meant (cut network b) []) b) (meant (next network (meant (cut network b) []) b) []) size)

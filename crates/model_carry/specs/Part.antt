@@ -1,4 +1,4 @@
--- The part of a network between two boundaries a and c of the plan is a network itself (T-09): its tram lines are
+-- The part of a network between two boundaries a and c of the plan is a network itself: its tram lines are
 -- clipped to the steps a + 1 to c, dropped if emptied, and renumbered; its signals stand as they do at a; at its
 -- entries waits what waits at a; and each step that was run is a past step. The network cut to b steps is its part from
 -- 0 to b, which depends on no plan; the carried network is its part from b to K.

@@ -1,4 +1,4 @@
--- 35's test by steps is the request's sentence: no run that ends before the horizon ends on no boundary.
+-- 35's test by steps is its sentence: no run that ends before the horizon ends on no boundary.
 use Rattle.base_laws.proofs.Kit.{◌≡◌, sym, ap, ◌∙◌, true, ◌⊎◌, inl, inr, ◌↔◌, List, ℕ, zero, suc, ◌+◌, ◌-◌, ◌≤◌, ◌<◌, eq-or-lt_of_le, dec_le, arith, leb, leb-true, le-leb}
 use Rattle.text_reader.specs.Lines.{Line}
 use Rattle.base_laws.specs.Test.{every}

@@ -110,7 +110,7 @@ module _ (network sheet : List Line) where
   unfolding Hold write_checks
   write-parts size h = (h.0, h.1.0, h.1.1.0)
 
-  -- 35 is the request's sentence
+  -- 35 is its sentence
   boundaries : Hold (network_checks network) → Hold (sheet_checks network sheet 1) → (r : ℕ) → r < signal_count network
       → (can_write network sheet r ≡ true) ↔ ((has_no_tram network r ≡ true) × EndsOnBoundaries network sheet r)
   unfolding can_write ◌and◌

@@ -1,4 +1,4 @@
--- A plan keeps a sheet (T-10; C19, C20). The greens are those of the guarantees, over ordinary steps, and a step is named by the boundary at which it ends: a green
+-- A plan keeps a sheet. The greens are those of the guarantees, over ordinary steps, and a step is named by the boundary at which it ends: a green
 -- whose first step ends at boundary a + 1 begins in the plan, at time t(a).
 use Rattle.std.specs.Prelude.{ℕ, suc, ◌≤◌, ◌<◌, ◌≡◌, true, ◌⊎◌, List}
 use Rattle.text_reader.specs.Lines.{Line}

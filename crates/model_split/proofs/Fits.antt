@@ -31,7 +31,7 @@ read_small : (text : List ℕ) (i k : ℕ) → entry (lines text) i k ≤ larges
 unfolding entry
 read_small text i k = number_small text i k
 
--- a plan that a text stands for, also the one that holds (T-07)
+-- a plan that a text stands for, also the one that holds
 plan-small : (network_text plan_text : List ℕ) → ValidNetwork (lines network_text) → (n k : ℕ) → entry (plan_of network_text plan_text) n k ≤ largest
 plan-small network_text plan_text valid n k = elim (dec_le 1 (length plan_text)) [
   | yes h ↦ rw (plan-of-text network_text plan_text h) (read_small plan_text n k)

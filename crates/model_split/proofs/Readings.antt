@@ -1,4 +1,4 @@
--- What the match says, and why each condition of 40 and 41 is needed: without it the theorem of T-14 would be false. Each such case breaks one condition, so that the
+-- What the match says, and why each condition of 40 and 41 is needed: without it the theorem of splitting would be false. Each such case breaks one condition, so that the
 -- call refuses it; the halves are computed all the same.
 use Rattle.base_laws.proofs.Kit.{◌≡◌, refl, List, [], ◌∷◌, map, ℕ}
 use Prim.Native.String.{String}

@@ -1,4 +1,4 @@
--- The theorem of T-14, of texts.
+-- The theorem of splitting, of texts.
 use Rattle.base_laws.proofs.Kit.{◌≡◌, refl, sym, ◌∙◌, ◌↔◌, true, not, List, ℕ, suc, ◌+◌, ◌*◌, ◌≤◌, ◌<◌, arith, get_or, eqb-true}
 use Rattle.base_search.specs.Checks.{Hold, verdict}
 use Rattle.base_search.proofs.Laws.{hold-of-passes, passes-of-hold}

@@ -1,4 +1,4 @@
--- The call that splits (T-14): when it refuses, and what it writes. The plan is the list of the lines that its text
+-- The call that splits: when it refuses, and what it writes. The plan is the list of the lines that its text
 -- stands for (`plan_of`).
 use Rattle.std.specs.Prelude.{ℕ, suc, ◌+◌, ◌*◌, ◌-◌, ◌^◌, ◌/◌, ◌%◌, Bool, not, List, [], ◌∷◌, ◌++◌, nat_le, nat_lt, ◌==◌, length, Result, Ok, Err}
 use Rattle.base_search.specs.Checks.{Checks, check, each, ◌then◌, verdict, Verdict}

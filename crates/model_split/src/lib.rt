@@ -1,4 +1,4 @@
-// The definitions of a network and a plan in two halves (T-14), and their theorem (specs/Splits.antt). In code only the
+// The definitions of a network and a plan in two halves, and their theorem (specs/Splits.antt). In code only the
 // lengths of the four texts.
 #![tactic(auto)]
 

@@ -1,4 +1,4 @@
--- The test of a link by its table is the paper's test of the link, and the turns of the loop over the `Q` lines.
+-- The test of a link by its table is the model's test of the link, and the turns of the loop over the `Q` lines.
 use Rattle.base_laws.proofs.Kit.{ℕ, ◌+◌, ◌-◌, ◌*◌, ◌%◌, ◌^◌, ◌≤◌, ◌<◌, ◌≡◌, refl, sym, ◌∙◌, Bool, true, false, cond, ◌&&◌, and-true, and-false, List, add-one, arith, le-leb, lt-leb, eqb-false, leb-true, ne_eqb, leb, ltb, eqb, length, get_or, take}
 use Rattle.std.proofs.lemmas.List.{length-take-le, get_or-take}
 use Rattle.base_search.specs.declared.Refusal.{Refusal}
@@ -50,7 +50,7 @@ module _ (link : Link) (signals : List Signal) where
 abbrev pub MadeBy : List ℕ → Link → Type 0
 MadeBy fields link = link ≡ link_by (λ k. get_or fields k 0)
 
--- ---- the paper's test of link i, by the part of the table that has the signals
+-- ---- the model's test of link i, by the part of the table that has the signals
 module _ {network : List Line} {signals : List Signal} (t : SignalTable network signals) (few : signal_count network ≤ max_signals) (i : ℕ) where
   abbrev held : List Signal
   held = take (signal_count network) signals

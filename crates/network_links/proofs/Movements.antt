@@ -1,4 +1,4 @@
--- The tests of movements by their table are the paper's, and the turns of the loops over the `M` lines and over the links' shares.
+-- The tests of movements by their table are the model's, and the turns of the loops over the `M` lines and over the links' shares.
 use Rattle.base_laws.proofs.Kit.{ℕ, zero, suc, ◌+◌, ◌-◌, ◌≤◌, ◌<◌, ◌≡◌, refl, sym, ap, fun_ext, ◌∙◌, Bool, true, false, ◌&&◌, ◌||◌, List, add-one, arith, eq-eqb, ne_eqb, ltb, eqb, eqb·suc-zero, length, get_or}
 use Rattle.std.proofs.lemmas.List.{length-take-le, get_or-take}
 use Rattle.base_search.specs.declared.Refusal.{Refusal}
@@ -63,7 +63,7 @@ movement-is : (network : List Line) {n : ℕ} (movements : List Movement) → Ro
 unfolding list
 movement-is network movements rows j h = rows.given j h _
 
--- ---- the paper's test of movement j
+-- ---- the model's test of movement j
 module _ (network : List Line) (movements : List Movement) (j : ℕ) (rows : RowsTo MadeBy network (movement_block network) movement_fields (j + 1) movements) where
   pair-rises : pair_rises_in movements j ≡ pair_rises network j
   unfolding pair_rises_in pair_rises ◌or◌ from_link to_link
@@ -124,7 +124,7 @@ module _ {movements : List Movement} {counts : Counts} (asked : SharesAsked move
   unfolding verdict share_checks_in checked
   shares-next b = let got = rw asked.size at (rw b at told) in passed-next inv h (rw (← add-one i, got))
 
--- ---- the paper's sums of shares, by the table of the movements
+-- ---- the model's sums of shares, by the table of the movements
 module _ {network : List Line} {counts : Counts} {movements : List Movement} (c : CountsHold network counts) (t : MovementTable network movements) where
   last-of : (m i : ℕ) → m ≤ movement_count network → last_movement_in movements m (suc i) ≡ last_movement network m i
   unfolding last_movement_in last_movement

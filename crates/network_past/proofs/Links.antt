@@ -1,4 +1,4 @@
--- 30 of one link by the program's tables is the paper's.
+-- 30 of one link by the program's tables is the model's.
 use Rattle.base_laws.proofs.Kit.{ℕ, suc, ◌+◌, ◌*◌, ◌-◌, ◌≤◌, ◌<◌, ◌≡◌, sym, ap, ap₂, ◌∙◌, true, List, [], dec_le, arith, le-leb, leb, length, get_or}
 use Rattle.text_reader.specs.Lines.{Line, lines}
 use Rattle.base_laws.specs.Sum.{sum}

@@ -1,4 +1,4 @@
--- What stands at a place of the program's tables, by its name in the paper.
+-- What stands at a place of the program's tables, by its name in the model.
 use Rattle.base_laws.proofs.Kit.{ℕ, ◌+◌, ◌*◌, ◌<◌, ◌≡◌, ap, List, arith, get_or}
 use Rattle.text_reader.specs.Lines.{Line}
 use Rattle.model.specs.Network.{link_count, signal_count, movement_count, capacity, travel_time, exit_rate, signal_of, phase_mask, standing, waiting_at_start, from_link, to_link, rate, share, step_line, timeline_length, past_entries, past_exits, step_length, demand}

@@ -1,4 +1,4 @@
--- What the program's tables hold of a network text while it is judged. These definitions are not the paper's: the
+-- What the program's tables hold of a network text while it is judged. These definitions are not the model's: the
 -- contracts between the crates use them.
 use Rattle.std.specs.Prelude.{ℕ, ◌+◌, ◌*◌, ◌≤◌, ◌<◌, ◌≡◌, List, nat_le, length, slice_index, Result, Ok, Err}
 use Rattle.base_search.specs.Checks.{Checks, verdict, Verdict}

@@ -1,4 +1,4 @@
-// The program's tables of a network and a plan: their sizes, and each number by its name in the paper. Links, signals, movements
+// The program's tables of a network and a plan: their sizes, and each number by its name in the model. Links, signals, movements
 // and steps are counted from 0 here.
 #![tactic(auto)]
 

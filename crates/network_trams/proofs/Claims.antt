@@ -1,4 +1,4 @@
--- The phases that trams ask in a step, by their table: one tram after another, from the last to the first, and that they are the paper's.
+-- The phases that trams ask in a step, by their table: one tram after another, from the last to the first, and that they are the model's.
 use Rattle.base_laws.proofs.Kit.{ℕ, zero, suc, ◌+◌, ◌-◌, ◌≤◌, ◌<◌, ◌≡◌, refl, ap, ◌∙◌, Bool, true, false, ◌&&◌, cond, ◌≢◌, List, ◌∷◌, ℕ_discrete, add-one, arith, leb-true, eq-eqb, ne_eqb, leb, length, get_or, set, take, drop, length-set, length-take, length-drop, drop_of_length-le, get_or-set_same, get_or-set_other, drop-cons}
 use Rattle.std.specs.Prelude.{reverse}
 use Rattle.std.proofs.lemmas.List.{length-reverse, get_or-reverse, get_or_default}
@@ -98,7 +98,7 @@ module _ {table : List Tram} {n : ℕ} {asked₀ : List ℕ} (given : ClaimsAske
       let all : length table - 0 ≡ length table = omega arith in
       record { size = inv.room; holds = λ r l. inv.holds r l ∙ rw (none, all) refl }
 
--- ---- the paper's
+-- ---- the model's
 module _ (network : List Line) (table : List Tram) (held : TramTable network table) (forms : (k : ℕ) → k < tram_count network → is_form network (tram_line network k) letter_t tram_fields ≡ true) where
   tram-is : (k : ℕ) → k < tram_count network → tram_at table k ≡ tram_by (number (tram network k))
   unfolding entry

@@ -99,7 +99,7 @@ module _ {trams : List Tram} {signals : List Signal} {counts : Counts} (asked : 
     pub phases-next : said ≡ Ok tt → PassedTo counts.trams (phase_checks_in trams signals counts) (k + 1)
     phases-next e = passed-next inv below (phase-said ∙ e)
 
--- ---- the paper's phases of trams
+-- ---- the model's phases of trams
 module _ {text : List ℕ} {trams : List Tram} {signals : List Signal} {reading : Reading} (held : TramsHeld text trams reading) (t : SignalTable (lines text) signals)
     {counts : Counts} (c : CountsHold (lines text) counts) where
   tram-is : (k : ℕ) → k < tram_count (lines text) → tram_at (take counts.trams trams) k ≡ tram_by (number (tram (lines text) k))

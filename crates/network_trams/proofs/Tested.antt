@@ -1,4 +1,4 @@
--- The tests of trams by their table are the paper's.
+-- The tests of trams by their table are the model's.
 use Rattle.base_laws.proofs.Kit.{ℕ, ◌+◌, ◌<◌, ◌≡◌, refl, ◌∙◌, List, arith, length, get_or, take, ◌≤◌}
 use Rattle.std.proofs.lemmas.List.{length-take-le, get_or-take}
 use Rattle.text_reader.specs.Lines.{Line, number}

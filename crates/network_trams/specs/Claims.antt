@@ -59,7 +59,7 @@ pub record Claimed (trams : List Tram) (n : ℕ) (asked : List ℕ) : Type 0 whe
   pub holds :
       (r : ℕ) → r < max_signals → slice_index asked r ≡ phase_from trams r n 0 (length trams)
 
--- the paper's
+-- the model's
 pub record TramPhases (network : List Line) (n : ℕ) (asked : List ℕ) : Type 0 where
   pub size : length asked ≡ max_signals
   pub holds : (r : ℕ) → r < max_signals → slice_index asked r ≡ tram_phase (trams network) r n

@@ -28,7 +28,7 @@ record ComparisonCase : Type 0 where
   second_size : ℕ
   answer : Result Comparison ComparisonRefusal
 
--- a plan of the paper's corridor that shows the phases of c1, by what it admits in step 1, moves in steps 2 and 3, and lets out in steps 3 and 4
+-- a plan of the corridor that shows the phases of c1, by what it admits in step 1, moves in steps 2 and 3, and lets out in steps 3 and 4
 abbrev plan : String → String → String → String → String → String
 plan admitted moved2 moved3 out3 out4 =
     "P\t1\t" ++ admitted ++ "\t0\t0\t0\t0\n"

@@ -1,4 +1,4 @@
--- What a comparison of two plans promises, and the theorem of T-11.
+-- What a comparison of two plans promises, and the theorem of comparing.
 use Rattle.std.specs.Prelude.{ℕ, ◌≤◌, ◌<◌, ◌≡◌, ◌↔◌, List, length, ℤ, pos, neg_ℤ, ◌≤ℤ◌, ◌<ℤ◌, Result, Ok, Err}
 use Rattle.std.proofs.Math.IntN.{sub_ℕ}
 use Rattle.base_search.specs.Checks.{Hold}
@@ -62,7 +62,7 @@ pub record PlansCompared (network first second : List Line) (first_size second_s
   -- swapping the plans swaps ahead and behind and negates the gap
   pub swaps : compare_plans network second first second_size first_size ≡ Ok (record { order = swapped order; gap = neg_ℤ gap })
 
--- What a comparison promises of its answer: of two plans that were compared the theorem of T-11, and of a refusal that its number is one that can arise.
+-- What a comparison promises of its answer: of two plans that were compared the theorem of comparing, and of a refusal that its number is one that can arise.
 pub record ComparisonPromises (network first second : List Line) (first_size second_size : ℕ) (answer : Result Comparison ComparisonRefusal) : Type 0 where
   pub compared : (c : Comparison) → answer ≡ Ok c → PlansCompared network first second first_size second_size c.order c.gap
   pub refused-number : (r : ComparisonRefusal) → answer ≡ Err r → CanArise plan_numbers (refusal_in r).number

@@ -1,4 +1,4 @@
--- The state of a link by the tables of a network is the paper's.
+-- The state of a link by the tables of a network is the model's.
 use Rattle.base_laws.proofs.Kit.{ℕ, suc, ◌+◌, ◌*◌, ◌-◌, ◌≤◌, ◌≡◌, refl, sym, ap, ◌∙◌, Bool, true, false, cond, List, add-one, mul-le-mul_right, arith, le-leb, leb-true, leb, length}
 use Rattle.base_search.specs.declared.Refusal.{Refusal}
 use Rattle.base_search.specs.Checks.{refusal, or_else, checked, verdict, Verdict}

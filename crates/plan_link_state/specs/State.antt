@@ -44,7 +44,7 @@ pub record EnteredOver (network : List Line) (ledger : List ℕ) (n i : ℕ) (ar
       → (arrival.start ≡ entered_at ledger (link_count network) (arrival_step network n i - past_count network) i)
       × (arrival.stop ≡ entered_at ledger (link_count network) (suc (arrival_step network n i) - past_count network) i)
 
--- what has arrived at a link's end, by the paper's words
+-- what has arrived at a link's end, by the model's words
 abbrev pub arrived_in : List Line → List ℕ → ℕ → ℕ → Arrived
 arrived_in network ledger boundary link =
     record {

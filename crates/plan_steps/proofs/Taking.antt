@@ -32,7 +32,7 @@ use Rattle.step_rows.proofs.Cuts.{offers-cut}
 use Rattle.step_rows.proofs.Ledger.{part-holds, next-written}
 use Rattle.step_rows.proofs.WaitingTexts.{outside-is, add-ready, step-offers, next-ready, waiting-next}
 use Rattle.step_limits.specs.Limits.{LimitsKept}
-use Rattle.step_limits.proofs.Texts.{keeps-paper}
+use Rattle.step_limits.proofs.Texts.{keeps-model}
 use Rattle.step_check.specs.Step.{row_before, made_row, step_rules_in, JudgeAsked, StepJudged}
 use Rattle.step_check.proofs.Texts.{rules-are}
 use Rattle.plan_steps.specs.declared.State.{State}
@@ -196,7 +196,7 @@ module _ {run : Run} {state : State} {signals : List Signal} {arrivals : List Ar
         keeps kept m l = go (let l' : m ≤ n = omega arith in eq-or-lt_of_le l')
           where
             go : (m ≡ n) ⊎ (m < n) → KeepsLimits net pln m
-            go (inl q) = rw q (keeps-paper valid at kept)
+            go (inl q) = rw q (keeps-model valid at kept)
             go (inr u) = lawful-limits (passed-lawful net pln m (asked.state-at.passed m u))
 
         after-row : (row : List ℕ) → RowHolds net pln (suc n) (made_row step (row_before step) row)
@@ -213,7 +213,7 @@ module _ {run : Run} {state : State} {signals : List Signal} {arrivals : List Ar
               }
 
           module _ {v : Verdict} {row' : List ℕ} (judged : StepJudged step (row_before step) row v row') where
-            -- the judgement is the paper's verdict on the line
+            -- the judgement is the model's verdict on the line
             line-judged : v ≡ verdict (line_checks net pln n)
             line-judged =
                 judged.told

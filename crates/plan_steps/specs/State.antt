@@ -27,7 +27,7 @@ use Rattle.plan_steps.specs.declared.Run.{Run}
 use Rattle.plan_steps.specs.Totals.{held_in, totals_after, TotalsAsked}
 use Rattle.plan_steps.specs.Reading.{Tables, PlaceAt, LinesLent}
 
--- The state at a boundary: the steps before it have passed, the lines of the next start at its place, its signals and totals and those who wait are the paper's, and
+-- The state at a boundary: the steps before it have passed, the lines of the next start at its place, its signals and totals and those who wait are the model's, and
 -- the ledger has the rows up to the boundary.
 pub record StateAt (network_text plan_text : List ℕ) (state : State) (signals : List Signal) (arrivals : List Arrival) (waiting ledger : List ℕ) : Type 0 where
   pub within : state.place.boundary ≤ step_count (lines network_text)

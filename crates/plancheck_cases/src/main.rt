@@ -1,4 +1,4 @@
-// Runs the program's function on stored folders: the cases c1 to c11 of the paper, c1 with a past, and files that are missing, not to be read, too long, or as long as can be.
+// Runs the program's function on stored folders: the cases c1 to c11 of the corridor, c1 with a past, and files that are missing, not to be read, too long, or as long as can be.
 #![tactic(auto)]
 
 // Each case's name, its network's file and its plan's.

@@ -27,7 +27,7 @@ module _ (network plan : List Line) (old : List ℕ) (m : ℕ) (long : 2 * m * l
       ext_get_or 0 _ _ (t ∙ sym (length-row network plan n))
       (λ k l. get_or-take (2 * link_count network) _ k 0 (omega arith) ∙ get_or-drop (2 * n * link_count network) _ k 0 ∙ written_row network plan old m n k h (omega arith))
 
-  -- the `B` records, read from the ledger, are the paper's
+  -- the `B` records, read from the ledger, are the model's
   pub rows-printed : record_texts 66 m (ledger_numbers (link_count network) (time network) (written network plan old m)) ≡ record_texts 66 m (boundary_numbers network plan)
   unfolding ledger_numbers boundary_numbers
   rows-printed = records-same 66 _ _ m (λ n l. ap (λ r. n ∷ time network n ∷ r) (row_read n l))

@@ -1,4 +1,4 @@
-// Checks whether an accepted plan keeps a fixed-time sheet (T-10): the call `check_sheet`. The plan's own check comes
+// Checks whether an accepted plan keeps a fixed-time sheet: the call `check_sheet`. The plan's own check comes
 // first; then one pass over its steps watches a few numbers of each signal. No table of runs is kept.
 #![tactic(auto)]
 

@@ -1,4 +1,4 @@
-// The lines of a fixed-time sheet (T-10), read into a table: refusal 33.
+// The lines of a fixed-time sheet, read into a table: refusal 33.
 #![tactic(auto)]
 
 ghost use Rattle.std.specs.Prelude.{◌≡◌};

@@ -1,4 +1,4 @@
-// Writes a plan for a fixed-time sheet with offsets (T-10): the call `plan_from_sheet`. The phase that a signal's cycle
+// Writes a plan for a fixed-time sheet with offsets: the call `plan_from_sheet`. The phase that a signal's cycle
 // shows goes from step to step, without a remainder.
 #![tactic(auto)]
 

@@ -1,4 +1,4 @@
-// Splits a network and a plan between two boxes (T-14): the call `split`.
+// Splits a network and a plan between two boxes: the call `split`.
 #![tactic(auto)]
 
 ghost use Rattle.std.specs.Prelude.{◌≡◌};

@@ -85,7 +85,7 @@ unfolding ◌and◌ ◌or◌
 excused true a b = refl
 excused false a b = refl
 
--- the tests of the code, and those of the paper
+-- the tests of the code, and those of the model
 pub grouped : (a p w f s k d : Bool) → (a && p && w && f && s && k && d) ≡ a and (p and w and f and s and (k and d))
 unfolding ◌and◌
 grouped false p w f s k d = refl

@@ -1,4 +1,4 @@
-// Checks whether a network that has passed can be split by the tables of its halves (T-14: 40, 41), and the form of a
+// Checks whether a network that has passed can be split by the tables of its halves (refusals 40, 41), and the form of a
 // plan's lines (9). Tests are joined by `&` and `|`, which evaluate both sides: so a function has one return to prove.
 #![tactic(auto)]
 

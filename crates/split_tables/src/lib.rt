@@ -1,4 +1,4 @@
-// The tables of a network's two halves (T-14): the new number of each link, signal and movement in a half, from 1, and 0 for what is not in it.
+// The tables of a network's two halves: the new number of each link, signal and movement in a half, from 1, and 0 for what is not in it.
 #![tactic(auto)]
 
 ghost use Rattle.std.specs.Prelude.{◌≡◌, ℕ, ◌/◌, ◌^◌, ◌≤◌, ◌<◌, Bool, length};

@@ -1,4 +1,4 @@
-// Writes the texts of one half of a network and of a plan (T-14) by the half's tables: the numbers of what is in the
+// Writes the texts of one half of a network and of a plan by the half's tables: the numbers of what is in the
 // half, in their old order, with those of border movements added. Lines are written as far as there is room; the place
 // where a text ends is returned in any case.
 #![tactic(auto)]

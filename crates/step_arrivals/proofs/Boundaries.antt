@@ -1,4 +1,4 @@
--- The steps by the table of times are the paper's, where the table holds a network's times.
+-- The steps by the table of times are the model's, where the table holds a network's times.
 use Rattle.base_laws.proofs.Kit.{ℕ, zero, suc, ◌+◌, ◌-◌, ◌≤◌, ◌<◌, ◌≡◌, refl, ap, List, add-one, arith}
 use Rattle.base_search.specs.Checks.{Hold}
 use Rattle.text_reader.specs.Lines.{Line}

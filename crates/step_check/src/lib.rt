@@ -42,7 +42,7 @@ const RULES: [Rule; 13] = [
 ];
 
 impl Rule {
-    // Its number in the paper.
+    // Its number in a refusal.
     fn number(self) -> u32
         ensures { result ≡ rule_number self }
     {
@@ -103,7 +103,7 @@ fn form_row_for(rule: Rule, step: &Step, previous: &[u32], row: &mut [u32])
 }
 
 // The refusal of the first rule that the step breaks, in the order of the rules, each over rising items; its line is
-// the step's line of the plan. Nested loops with a label that is left at the first break, as the paper asks for rules
+// the step's line of the plan. Nested loops with a label that is left at the first break, for rules
 // 10 to 18.
 fn first_break(step: &Step, previous: &[u32], row: &mut [u32]) -> Result<(), Refusal>
     requires { JudgeAsked step.now previous.now row.old }

@@ -1,4 +1,4 @@
--- The limits by the program's tables are those of the paper, where the tables hold what the texts say.
+-- The limits by the program's tables are those of the model, where the tables hold what the texts say.
 use Rattle.base_laws.proofs.Kit.{◌≡◌, refl, sym, ap₂, ◌∙◌, List, ℕ, ◌*◌, ◌-◌, ◌<◌, dec_le, arith, eq-eqb, leb}
 use Rattle.text_reader.specs.Lines.{Line, lines}
 use Rattle.base_laws.specs.Test.{◌or◌}
@@ -44,10 +44,10 @@ module _ {text : List ℕ} {plan : List Line} {n : ℕ} {step : Step} (valid : V
       let l : from_link (lines text) j - 1 < link_count (lines text) = omega (arith, movement-limits (lines text) valid j h) in
       rw (moved-is at.counted at.numbers j h, from-link-at at.movement-table j h, is-open-is (from_link (lines text) j - 1) l)
 
-  -- a line that keeps its limits keeps the paper's
-  pub keeps-paper : LimitsKept step → KeepsLimits (lines text) plan n
+  -- a line that keeps its limits keeps the model's
+  pub keeps-model : LimitsKept step → KeepsLimits (lines text) plan n
   unfolding limit_rule_holds
-  keeps-paper kept =
+  keeps-model kept =
       record {
         admissions = λ i l. sym (rule15-is i l) ∙ (kept.of-links i (omega (arith, at.counted.links))).0;
         exits = λ i l. sym (rule25-is i l) ∙ (kept.of-links i (omega (arith, at.counted.links))).1;

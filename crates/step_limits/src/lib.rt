@@ -82,7 +82,7 @@ fn moves_open(step: &Step, j: usize) -> bool
 }
 
 impl LimitRule {
-    // Its number in the paper. A `match`, not discriminants: with these, a wrong program that gives two variants one
+    // Its number in a refusal. A `match`, not discriminants: with these, a wrong program that gives two variants one
     // number would not compile, and so would test no proof.
     pub fn number(self) -> u32
         ensures { result ≡ limit_rule_number self }

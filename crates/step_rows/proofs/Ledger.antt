@@ -52,7 +52,7 @@ module _ (network plan : List Line) where
             | no z ↦ let e : k ≡ 2 * i + 1 = omega arith in rw e (holds.left_at i u ∙ sym (row_at network plan n i u).1)
           ]
 
-  -- `write_row` leaves the ledger of the paper with one row more
+  -- `write_row` leaves the ledger of the model with one row more
   pub next-written : (old cells : List ℕ) (m : ℕ) {ledger out : List ℕ} → ledger ≡ written network plan old m → take (2 * link_count network) cells ≡ row network plan m
       → out ≡ take (2 * m * link_count network) ledger ++ (take (2 * link_count network) cells ++ drop (2 * m * link_count network + 2 * link_count network) ledger)
       → out ≡ written network plan old (suc m)

@@ -1,4 +1,4 @@
--- What the program's tables give is what the two texts say: the row after a step is the paper's.
+-- What the program's tables give is what the two texts say: the row after a step is the model's.
 use Rattle.base_laws.proofs.Kit.{◌≡◌, ap, ap₂, sym, ◌∙◌, List, ◌++◌, ℕ, suc, ◌+◌, ◌*◌, ◌-◌, ◌≤◌, ◌<◌, arith, eqb, length, get_or, take, take_at}
 use Rattle.text_reader.specs.Lines.{Line}
 use Rattle.network_tables.specs.declared.Counts.{Counts}

@@ -112,7 +112,7 @@ pub fn next_row(
     add_movements(line, movements, counts, row);
 }
 
-// Writes a row into the ledger from index `at` on, through the part of the lent ledger that begins in its middle, as the paper asks; all else
+// Writes a row into the ledger from index `at` on, through the part of the lent ledger that begins in its middle; all else
 // is kept.
 pub fn write_row(ledger: &mut [u32], at: usize, row: &[u32])
     requires { at + length row.now ≤ length ledger.old }

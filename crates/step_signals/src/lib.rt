@@ -1,4 +1,4 @@
-// A signal (the paper's light) through a step: the phase that its mask shows, rules 10, 29 and 11 to 14, and the signal after the step. `asked` is the phase
+// A signal through a step: the phase that its mask shows, rules 10, 29 and 11 to 14, and the signal after the step. `asked` is the phase
 // that a tram asks of a signal, 0 in an ordinary step.
 // The definitions stand in specs/ of crate model.
 #![tactic(auto)]
@@ -23,7 +23,7 @@ pub enum SignalRule {
     Cycle,
 }
 
-// The phase, among 1 to `phases`, whose bit is all of the mask; 0 where there is none, which breaks rule 10 (C7). The
+// The phase, among 1 to `phases`, whose bit is all of the mask; 0 where there is none, which breaks rule 10. The
 // count of ones tests that one bit is set; the trailing zeros are its place. A number, not an `Option`: with tables of
 // options, for what is shown and what trams ask, the largest plan took 2.2 % more instructions.
 pub fn phase_of(mask: u32, phases: u32) -> u32
@@ -64,7 +64,7 @@ pub fn opens(mask: u32, phase: u32) -> bool
     (mask >> place) % 2 == 1
 }
 
-// The phase after one of so many, by cases (C8), as the paper has it: after P comes 1, after any other k comes k + 1. After phase 0, which is none, it is 1.
+// The phase after one of so many, by cases: after P comes 1, after any other k comes k + 1. After phase 0, which is none, it is 1.
 // Of P phases, the P-th next is the first that is the same phase again.
 #[tactic(auto, using(model::proofs::Order::phase_order))]
 pub fn phase_after(phase: u32, phases: u32) -> u32
@@ -120,10 +120,10 @@ fn clock_after(signal: Signal, phase: u32, seconds: u32) -> u32
     }
 }
 
-// The tests of rules 11 to 14 take the signal by value, as the paper has the light. What they require of it, of the
+// The tests of rules 11 to 14 take the signal by value. What they require of it, of the
 // phase and of the seconds stays in each contract: a struct with these facts would replace the light.
 
-// Rule 11 (C8): the phase is that of the step before or the next.
+// Rule 11: the phase is that of the step before or the next.
 fn keeps_order(signal: Signal, phase: u32) -> bool
     requires { Ready signal }
     ensures { result ≡ keeps_order signal phase }
@@ -131,7 +131,7 @@ fn keeps_order(signal: Signal, phase: u32) -> bool
     (phase == signal.shown) | (phase == phase_after(signal.shown, signal.phases))
 }
 
-// Rule 12 (C14): a phase that is left has shown at least its least time.
+// Rule 12: a phase that is left has shown at least its least time.
 fn keeps_least_time(signal: Signal, phase: u32) -> bool
     requires { Ready signal }
     ensures { result ≡ keeps_least_time signal phase }
@@ -140,7 +140,7 @@ fn keeps_least_time(signal: Signal, phase: u32) -> bool
     (phase == signal.shown) | (signal.least[place] <= signal.shown_for)
 }
 
-// Rule 13 (C9 to C13): the seconds of a run, this step included, are at most the phase's greatest time.
+// Rule 13: the seconds of a run, this step included, are at most the phase's greatest time.
 fn keeps_greatest_time(signal: Signal, phase: u32, seconds: u32) -> bool
     requires ready { Ready signal }
     requires phase_bound { phase ≤ 8 }
@@ -151,7 +151,7 @@ fn keeps_greatest_time(signal: Signal, phase: u32, seconds: u32) -> bool
     shown_for_after(signal, phase, seconds) <= signal.greatest[place]
 }
 
-// Rule 14 (C15, C16): phase 1 begins again after the least cycle at the earliest; after the step the clock is at most the greatest cycle.
+// Rule 14: phase 1 begins again after the least cycle at the earliest; after the step the clock is at most the greatest cycle.
 fn keeps_cycle(signal: Signal, phase: u32, seconds: u32) -> bool
     requires ready { Ready signal }
     requires seconds_bound { seconds ≤ 60 }
@@ -176,7 +176,7 @@ fn after(signal: Signal, phase: u32, seconds: u32) -> Signal
 }
 
 impl SignalRule {
-    // Its number in the paper. A `match`, not discriminants: with these, a wrong program that gives two variants one
+    // Its number in a refusal. A `match`, not discriminants: with these, a wrong program that gives two variants one
     // number would not compile, and so would test no proof.
     pub fn number(self) -> u32
         ensures { result ≡ signal_rule_number self }

@@ -130,7 +130,7 @@ impl StepRows<'_> {
 }
 
 impl SumRule {
-    // Its number in the paper. A `match`, not discriminants: with these, a wrong program that gives two variants one
+    // Its number in a refusal. A `match`, not discriminants: with these, a wrong program that gives two variants one
     // number would not compile, and so would test no proof.
     pub fn number(self) -> u32
         ensures { result ≡ sum_rule_number self }

@@ -1,4 +1,4 @@
--- The greatest lengths of texts, in bytes, of the header of the C functions. A number that is read may be padded to ten digits (T-03); none that is written is
+-- The greatest lengths of texts, in bytes, of the header of the C functions. A number that is read may be padded to ten digits; none that is written is
 -- padded.
 use Rattle.std.specs.Prelude.{ℕ, ◌≤◌, ◌≡◌, List, length, Ok}
 use Rattle.base_search.specs.Checks.{verdict}
@@ -30,10 +30,10 @@ pub record GreatestLengths (network : List ℕ) : Type 0 where
   pub network-text : verdict (network_checks (lines network)) ≡ Ok tt → length network ≤ network_text_most
   -- nor is a plan text that is accepted on it
   pub plan-text : (plan : List ℕ) (size : ℕ) → verdict (plan_checks (lines network) (plan_of network plan) size) ≡ Ok tt → length plan ≤ plan_text_most
-  -- nor a network text that is carried on from it (T-09)
+  -- nor a network text that is carried on from it
   pub carried-text : (plan : List Line) (b size room : ℕ) → verdict (carry_checks (lines network) plan b size room) ≡ Ok tt
       → length (carried_text (lines network) plan b) ≤ network_text_most
-  -- nor a plan text that is written from a listing (T-01), or for a sheet, every volume of which is 0 (T-10)
+  -- nor a plan text that is written from a listing, or for a sheet, every volume of which is 0
   pub listing-plan : (entries : List Entry) (room : ℕ) → verdict (listing.write_checks (lines network) entries room) ≡ Ok tt
       → length (listing.plan_text (lines network) entries) ≤ written_plan_most
   pub sheet-plan : (times : List Line) (room : ℕ) → verdict (sheet.write_checks (lines network) times room) ≡ Ok tt

@@ -31,7 +31,7 @@ SameLine a b =
 unfoldable pub SameText : List ℕ → List ℕ → Type 0
 SameText a b = Pairwise SameLine (split 10 a) (split 10 b)
 
--- Padding makes no difference (T-03): what holds of a text, such as a call's answer and all that it writes, holds of
+-- Padding makes no difference: what holds of a text, such as a call's answer and all that it writes, holds of
 -- every text that differs from it only in padding. For several texts the definition is used one inside the other.
 abbrev pub PaddingIgnored : List ℕ → (List ℕ → Type 0) → Type 0
 PaddingIgnored text Said = (padded : List ℕ) → SameText text padded → Said padded

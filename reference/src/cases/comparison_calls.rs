@@ -1,6 +1,6 @@
 //! Two plans compared: each order, and the refusals of either plan.
 
-use super::paper::{NETWORK, PLAN};
+use super::corridor::{NETWORK, PLAN};
 use super::plan_breaches::draw_breaches;
 use super::{
     refused, Answer, Call, Ledger, Maker, Question, Scenario, Sheet, Size, Texts, Traffic,
@@ -173,7 +173,7 @@ fn refused_networks(maker: &mut Maker, first: &Scenario, second: &Scenario) {
     maker.ask("4: network before both plans", question, told(refusal, 0));
 }
 
-/// The paper's corridor: the plan, plans that let out later, and one that
+/// The corridor: the plan, plans that let out later, and one that
 /// crosses.
 pub fn corridor(maker: &mut Maker) {
     let later = PLAN.replace(

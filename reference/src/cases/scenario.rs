@@ -24,7 +24,7 @@ pub enum Traffic {
     Free,
     /// More demand than room: links fill up to their capacity.
     Full,
-    /// Every limit of the paper at its greatest value.
+    /// Every limit at its greatest value.
     Extreme,
 }
 

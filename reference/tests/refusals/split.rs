@@ -3,7 +3,7 @@
 use crate::fixture::{refusal, Sheet};
 use plancheck_reference::{split, Refusal};
 
-/// The paper's corridor with its light at the second link, so that it can be
+/// The corridor with its light at the second link, so that it can be
 /// parted between the two.
 fn corridor() -> Sheet {
     Sheet::new(

@@ -8,7 +8,7 @@ use Rattle.plan_link_state.proofs.State.{short-told, past-told, link-told, insid
 use Rattle.plan_link_state.proofs.state_by.Goals as goal
 use Rattle.plan_link_state.proofs.state_by.Goals.{After-contains}
 
--- the test of the link's number is the paper's
+-- the test of the link's number is the model's
 link-test : (c : After-contains) → c.contains.result ≡ within 1 c.args.link c.args.tables.now.reading.counts.links
 unfolding within ◌and◌
 link-test c = search rules

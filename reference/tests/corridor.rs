@@ -1,4 +1,4 @@
-//! The worked corridor of the paper and its one-change cases c1 to c11.
+//! The worked corridor and its one-change cases c1 to c11.
 
 use plancheck_reference::{check_network, check_plan, report, Totals};
 

@@ -1,4 +1,4 @@
-//! The worked corridor of the paper, c1, and its one-change cases c2 to c11.
+//! The worked corridor, c1, and its one-change cases c2 to c11.
 
 use plancheck::{check_network, check_plan, required_ledger_len, Refusal, Totals};
 

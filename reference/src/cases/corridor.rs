@@ -1,4 +1,4 @@
-//! The corridor of the paper and its one-change cases.
+//! The corridor and its one-change cases.
 
 use super::{refused, Answer, Maker, Texts};
 use crate::Totals;
