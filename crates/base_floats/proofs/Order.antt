@@ -1,4 +1,5 @@
--- The order of floats, signs and infinities included: `le` is transitive, and of two values that are no NaN one is at most the other.
+-- The order of floats, signs and infinities included: `le` is transitive, and of two values that
+-- are no NaN one is at most the other.
 use Rattle.base_laws.proofs.Kit.{◌≡◌, refl, sym, ap, ◌∙◌, Bool, true, false, ◌&&◌, ◌||◌, ◌⊎◌, inl, inr, ℕ, ◌+◌, ◌*◌, ◌≤◌, ◌<◌, le_of_eq, le_of_lt, eq-or-lt_of_le, zero-mul, eq-zero-or-pos, mul-pos, arith, ltb-true, ltb-false, eqb-true, lt-ltb, eq-eqb, ltb, eqb}
 use lib.Ieee.{Float, nan, inf, fin, up, down, lt, eq, le, is_nan}
 use lib.Ieee.Fits.{down_pos}

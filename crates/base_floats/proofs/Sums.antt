@@ -1,4 +1,5 @@
--- Sums and differences of floats: of finite values they are no NaN, and within a bound they are finite.
+-- Sums and differences of floats: of finite values they are no NaN, and within a bound they are
+-- finite.
 use Rattle.base_laws.proofs.Kit.{◌≡◌, refl, sym, ◌∙◌, Bool, true, false, cond, ◌&&◌, Bool·beq, ℕ, zero, suc, ◌+◌, ◌-◌, ◌*◌, ◌^◌, ◌≤◌, ◌<◌, mul-pos, mul-le-mul_right, mul_assoc, mul_comm, arith, ltb}
 use lib.Ieee.{Float, nan, inf, fin, Format, binary64, prec, emax, low, up, down, odd, units, round, sum, add, sub, neg, le, is_nan}
 use lib.Ieee.Bits.{is_true}

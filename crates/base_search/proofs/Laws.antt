@@ -1,5 +1,6 @@
--- The laws of checks in order: they pass exactly when all hold, and a refusal is that of the first broken check. A loop that takes them one by one meets
--- one law for each way through a turn: it stops at a broken check, goes on past one that holds, or has come to the end.
+-- The laws of checks in order: they pass exactly when all hold, and a refusal is that of the first
+-- broken check. A loop that takes them one by one meets one law for each way through a turn: it
+-- stops at a broken check, goes on past one that holds, or has come to the end.
 use Rattle.base_laws.proofs.Kit.{◌≡◌, refl, sym, ap, ap₂, ◌∙◌, Bool, true, false, ◌⊎◌, inl, inr, ◌↔◌, ℕ, zero, suc, ◌+◌, ◌-◌, ◌≤◌, ◌<◌, eq-or-lt_of_le, arith}
 use Rattle.base_search.specs.declared.Refusal.{Refusal}
 use Rattle.base_search.specs.Checks.{refusal, Checks, check, each, ◌then◌, or_else, first_from, checked, verdict, Hold, FirstBroken, Verdict}

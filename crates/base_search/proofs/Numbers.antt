@@ -1,4 +1,5 @@
--- A refusal has the number of one of the checks, so that where these are among the call's, its number can arise.
+-- A refusal has the number of one of the checks, so that where these are among the call's, its
+-- number can arise.
 use Rattle.base_laws.proofs.Kit.{◌≡◌, refl, Bool, true, false, ◌&&◌, and-eq-true_iff, inl, inr, List, [], ◌∷◌, ℕ, ◌<◌, leb-true, eqb-true, leb, eqb}
 use Rattle.base_search.specs.declared.Refusal.{Refusal}
 use Rattle.base_search.specs.Checks.{Checks, check, each, ◌then◌, verdict, FirstBroken}

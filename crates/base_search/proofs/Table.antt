@@ -1,4 +1,5 @@
--- The search for the first broken rule of a table, a turn at a time: every rule before the one that it is at holds of every item. And tables whose rules agree.
+-- The search for the first broken rule of a table, a turn at a time: every rule before the one that
+-- it is at holds of every item. And tables whose rules agree.
 use Rattle.base_laws.proofs.Kit.{ℕ, zero, suc, ◌+◌, ◌≤◌, ◌<◌, ◌≡◌, sym, ap, ap₂, ◌∙◌, Bool, true, false, not, List, [], ◌∷◌, add-one, arith, not-true, not-false, length}
 use borrow.Author.Count.{below_more}
 use Rattle.base_search.specs.Checks.{refusal, first_from, checked, verdict, Hold, Rule, rule_at, table, Verdict}

@@ -49,7 +49,8 @@ FirstBroken (check number line item holds) r = (holds ≡ false) × (r ≡ refus
 FirstBroken (each n f) r = (i : ℕ) × (i < n) × FirstBroken (f i) r × ((k : ℕ) → k < i → Hold (f k))
 FirstBroken (a then b) r = FirstBroken a r ⊎ (Hold a × FirstBroken b r)
 
--- One rule of a table: its refusal number, how many items it has, and whether it holds of an item. Items are counted from 0 here, from 1 in a refusal.
+-- One rule of a table: its refusal number, how many items it has, and whether it holds of an item.
+-- Items are counted from 0 here, from 1 in a refusal.
 pub record Rule : Type 0 where
   pub number : ℕ
   pub items : ℕ

@@ -1,4 +1,5 @@
--- The lines of the carried network by the program's tables, and what the functions that put them require and promise.
+-- The lines of the carried network by the program's tables, and what the functions that put them
+-- require and promise.
 use Rattle.std.specs.Prelude.{ℕ, suc, ◌+◌, ◌*◌, ◌-◌, ◌≤◌, ◌<◌, ◌≡◌, true, List, [], ◌∷◌, length, slice_index}
 use Rattle.text_reader.specs.Lines.{lines}
 use Rattle.text_reader.specs.Reading.{Starts}
@@ -62,7 +63,8 @@ pub record StepsPutAsked (tables : NetworkTables) (at : Standing) (output : Outp
   pub rising : Rising at.ledger.now tables.reading.counts.links at.boundary
   pub early : Early at.boundary output
 
--- the steps before the boundary, whose `S` lines start with line `first`, were put as `H` lines, and the next `S` line starts at the place returned
+-- the steps before the boundary, whose `S` lines start with line `first`, were put as `H` lines,
+-- and the next `S` line starts at the place returned
 abbrev pub StepsPut : NetworkTables → Standing → Output → ℕ → Output → Type 0
 StepsPut tables at old next new =
     let network = lines tables.text.now in

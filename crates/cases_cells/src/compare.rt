@@ -16,7 +16,8 @@ use std::io::Read;
 // Room for the longest text of the stored cases.
 const ROOM: usize = 8192;
 
-// Runs a corridor by the library: whether the answer and every volume are as stored. If not, both answers are printed.
+// Runs a corridor by the library: whether the answer and every volume are as stored. If not, both
+// answers are printed.
 fn judge(
     rt: &impl Print,
     number: u32,
@@ -32,7 +33,7 @@ fn judge(
     agrees(rt, number, &given, &stored, left == *volumes)
 }
 
-// Reads and judges one case; returns where it is counted.
+/// Reads and judges one case; returns where it is counted.
 pub fn run_case(rt: &impl Print, file: &mut impl Read, number: u32) -> Result<usize, Malformed> {
     let mut text = [0; ROOM];
     let mut volumes = [0; MAX_CELLS];

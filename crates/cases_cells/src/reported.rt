@@ -1,4 +1,5 @@
-// The answer of a run in the stored form, which is described in reference/src/cases/corridor_file.rs.
+// The answer of a run in the stored form, which is described in
+// reference/src/cases/corridor_file.rs.
 ghost use Rattle.std.specs.Prelude.{◌≡◌, IfOk};
 ghost use Rattle.std.specs.Io.KnownBytes.{Consumes};
 ghost use Rattle.cells_call.specs.Call.{volumes_in};
@@ -13,7 +14,7 @@ use std::fmt;
 use std::fmt::Display;
 use std::io::Read;
 
-// The numbers of a run that are stored and printed: how many cells, flow in and flow out.
+/// The numbers of a run that are stored and printed: how many cells, flow in and flow out.
 #[derive(Clone, Copy, PartialEq, Default)]
 pub struct Flows {
     pub cells: u32,
@@ -21,7 +22,7 @@ pub struct Flows {
     pub flow_out: u64,
 }
 
-// The answer without the volumes.
+/// The answer without the volumes.
 #[derive(Clone, Copy, PartialEq)]
 pub struct Reported(pub Result<Flows, Refusal>);
 
@@ -51,7 +52,7 @@ impl From<Result<CellsRun, Refusal>> for Reported {
     }
 }
 
-// The volumes of an answer; all 0 if it is a refusal.
+/// The volumes of an answer; all 0 if it is a refusal.
 pub fn volumes_in(answer: Result<CellsRun, Refusal>) -> [u32; MAX_CELLS]
     ensures { result ≡ volumes_in answer }
 {
@@ -61,7 +62,7 @@ pub fn volumes_in(answer: Result<CellsRun, Refusal>) -> [u32; MAX_CELLS]
     }
 }
 
-// Reads the stored answer. A refusal has no flows.
+/// Reads the stored answer. A refusal has no flows.
 pub fn read_reported<R: Read>(file: &mut R) -> Result<Reported, Malformed>
     ensures { IfOk result (λ reported. Consumes (R.remaining file.old) (R.remaining file.new) (reported_bytes reported)) }
 {

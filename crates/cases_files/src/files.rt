@@ -9,8 +9,8 @@ use std::fs::File;
 use std::io::Read;
 use std::rt::Files;
 
-// How the files of a program begin: a mark, the version of their form, and how many numbers to skip after the number of
-// cases.
+/// How the files of a program begin: a mark, the version of their form, and how many numbers to skip
+/// after the number of cases.
 #[derive(Clone, Copy)]
 pub struct Form {
     pub mark: [u8; 8],
@@ -18,8 +18,8 @@ pub struct Form {
     pub passed_over: u32,
 }
 
-// The files of every program: the stored cases; some with a wrong answer on purpose; and two without cases that are
-// malformed, one of another version, and one with a byte behind its end.
+/// The files of every program: the stored cases; some with a wrong answer on purpose; and two
+/// without cases that are malformed, one of another version, and one with a byte behind its end.
 pub const PATHS: [&str; 4] = [
     "cases.bin",
     "wrong_answer.bin",
@@ -27,9 +27,9 @@ pub const PATHS: [&str; 4] = [
     "one_byte_more.bin",
 ];
 
-// Runs the files of a program, and prints each counter under its name. The counts are lent: the prover does not take an
-// array of references whose length is a parameter. Here and below `run_case` has no precondition (`IsAlwaysCallable`),
-// since nothing is known of what a file holds.
+/// Runs the files of a program, and prints each counter under its name. The counts are lent: the
+/// prover does not take an array of references whose length is a parameter. Here and below
+/// `run_case` has no precondition (`IsAlwaysCallable`), since nothing is known of what a file holds.
 pub fn run<R: Files + Print, F: Fn(&mut R::File, u32) -> Result<usize, Malformed>>(
     rt: &R,
     form: Form,
@@ -45,9 +45,9 @@ pub fn run<R: Files + Print, F: Fn(&mut R::File, u32) -> Result<usize, Malformed
     print_counts(rt, names, counts);
 }
 
-// Runs each case of a file, numbered from 0, and counts it where `run_case` says. Prints the file's name and how many
-// cases it has, or that it is malformed: a case is, its version is another, or bytes are left over. A failed write is
-// ignored.
+/// Runs each case of a file, numbered from 0, and counts it where `run_case` says. Prints the file's
+/// name and how many cases it has, or that it is malformed: a case is, its version is another, or
+/// bytes are left over. A failed write is ignored.
 pub fn run_file<R: Files + Print, F: FnMut(&mut R::File, u32) -> Result<usize, Malformed>>(
     rt: &R,
     path: &str,
@@ -67,8 +67,9 @@ pub fn run_file<R: Files + Print, F: FnMut(&mut R::File, u32) -> Result<usize, M
     };
 }
 
-// Runs and counts each case of a file, to the end of the file; returns how many there are. Of the cases nothing is
-// promised here: what `run_case` does with a file that it is lent, its contract says.
+// Runs and counts each case of a file, to the end of the file; returns how many there are. Of the
+// cases nothing is promised here: what `run_case` does with a file that it is lent, its contract
+// says.
 fn run_cases<R: Read, F: FnMut(&mut R, u32) -> Result<usize, Malformed>>(
     file: &mut R,
     form: Form,
@@ -91,7 +92,8 @@ fn run_cases<R: Read, F: FnMut(&mut R, u32) -> Result<usize, Malformed>>(
     Ok(count)
 }
 
-// Reads the beginning of a file, which has the mark and the version of its form; returns how many cases the file has.
+// Reads the beginning of a file, which has the mark and the version of its form; returns how many
+// cases the file has.
 fn read_header<R: Read>(file: &mut R, form: Form) -> Result<u32, Malformed>
     ensures { IfOk result (λ count. Consumes (R.remaining file.old) (R.remaining file.new) (form.mark ++ to_le_bytes w32 form.version ++ to_le_bytes w32 count)) }
 {

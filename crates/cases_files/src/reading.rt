@@ -7,7 +7,7 @@ ghost use Rattle.cases_files.specs.Reading.{GivesEach};
 use std::io;
 use std::io::Read;
 
-// A file that ends too early, can't be read, or breaks its form.
+/// A file that ends too early, can't be read, or breaks its form.
 #[derive(Clone, Copy, Debug)]
 pub struct Malformed;
 
@@ -17,7 +17,7 @@ impl From<io::Error> for Malformed {
     }
 }
 
-// The next bytes, as many as the array has.
+/// The next bytes, as many as the array has.
 pub fn read_array<R: Read, const N: usize>(file: &mut R) -> Result<[u8; N], Malformed>
     ensures { IfOk result (λ bytes. Consumes (R.remaining file.old) (R.remaining file.new) bytes) }
 {
@@ -26,19 +26,21 @@ pub fn read_array<R: Read, const N: usize>(file: &mut R) -> Result<[u8; N], Malf
     Ok(bytes)
 }
 
+/// The next number of 32 bits, its lowest byte first.
 pub fn read_u32<R: Read>(file: &mut R) -> Result<u32, Malformed>
     ensures { IfOk result (λ n. Consumes (R.remaining file.old) (R.remaining file.new) (to_le_bytes w32 n)) }
 {
     Ok(u32::from_le_bytes(read_array(file)?))
 }
 
+/// The next number of 64 bits, its lowest byte first.
 pub fn read_u64<R: Read>(file: &mut R) -> Result<u64, Malformed>
     ensures { IfOk result (λ n. Consumes (R.remaining file.old) (R.remaining file.new) (to_le_bytes w64 n)) }
 {
     Ok(u64::from_le_bytes(read_array(file)?))
 }
 
-// Fills a slice from the file, an item at a time.
+/// Fills a slice from the file, an item at a time.
 pub fn read_each<R: Read, T: Drop, F: Fn(&mut R) -> Result<T, Malformed>>(
     file: &mut R,
     items: &mut [T],
@@ -53,7 +55,7 @@ pub fn read_each<R: Read, T: Drop, F: Fn(&mut R) -> Result<T, Malformed>>(
     Ok(())
 }
 
-// Reads a length and a text of that length, to the start of a room that must be large enough.
+/// Reads a length and a text of that length, to the start of a room that must be large enough.
 pub fn read_text<'a, R: Read>(file: &mut R, room: &'a mut [u8]) -> Result<&'a [u8], Malformed>
     ensures { IfOk result (λ text. Consumes (R.remaining file.old) (R.remaining file.new) (to_le_bytes w32 (length text.now) ++ text.now)) }
 {

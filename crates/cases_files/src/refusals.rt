@@ -16,7 +16,7 @@ const NOTHING: Refusal = Refusal {
     item: 0,
 };
 
-// Reads a refusal; none if nothing is refused.
+/// Reads a refusal; none if nothing is refused.
 pub fn read_refusal<R: Read>(file: &mut R) -> Result<Option<Refusal>, Malformed>
     ensures { IfOk result (λ stored. Consumes (R.remaining file.old) (R.remaining file.new) (stored_bytes stored)) }
 {
@@ -32,7 +32,7 @@ pub fn read_refusal<R: Read>(file: &mut R) -> Result<Option<Refusal>, Malformed>
     }
 }
 
-// A call's refusal as it is compared and printed: each number after a tab.
+/// A call's refusal as it is compared and printed: each number after a tab.
 #[derive(Clone, Copy, PartialEq)]
 pub struct Columns(pub Option<Refusal>);
 

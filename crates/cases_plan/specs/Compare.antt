@@ -82,6 +82,7 @@ reported_to texts ledger second_ledger buffer question = record {
   checksum = checksum_of (ledger_to texts ledger question) (second_ledger_to texts ledger second_ledger question) (buffer_to texts ledger buffer question);
 }
 
--- an answer, ledgers and a buffer are those that were stored: the answer in every part, the others by their checksum
+-- an answer, ledgers and a buffer are those that were stored: the answer in every part, the others
+-- by their checksum
 abbrev pub as_stored : Reported → Reported → Bool
 as_stored given stored = same_outcome given.outcome stored.outcome && given.checksum == stored.checksum

@@ -22,7 +22,8 @@ module _ {R T : Type 0} (bytes : R → Option (List ℕ)) (returns : MutBor R �
     pub leaves : left.now ≡ after
     pub items-are : filled.now ≡ items
 
-  -- the mark of what the case before had was read, and that is kept; or items are given, and these are kept
+  -- the mark of what the case before had was read, and that is kept; or items are given, and these
+  -- are kept
   abbrev pub GoesOn : Option (List T) → R → R → Option (List T) → Type 0
   GoesOn had before after has =
       (Consumes (bytes before) (bytes after) (to_le_bytes w32 (2 ^ 32 - 1)) × (has ≡ had))

@@ -8,7 +8,8 @@ use crate::outcome::Outcome;
 use crate::stored::Reported;
 use cases_files::agreement::agrees;
 
-// The texts of a case; the second is a sheet or a second plan. Each has its own lifetime, since each is kept elsewhere.
+/// The texts of a case; the second is a sheet or a second plan. Each has its own lifetime, since
+/// each is kept elsewhere.
 #[derive(Clone, Copy)]
 pub struct Texts<'n, 'p, 's> {
     pub network: &'n [u8],
@@ -16,7 +17,7 @@ pub struct Texts<'n, 'p, 's> {
     pub second: &'s [u8],
 }
 
-// A call, and the boundary and the link that it is asked of.
+/// A call, and the boundary and the link that it is asked of.
 #[derive(Clone, Copy)]
 pub struct Question {
     pub call: Call,
@@ -24,7 +25,7 @@ pub struct Question {
     pub link: u32,
 }
 
-// What is asked of a case's texts, by its number from 0, and what is stored of the answer.
+/// What is asked of a case's texts, by its number from 0, and what is stored of the answer.
 #[derive(Clone, Copy)]
 pub struct Case {
     pub number: u32,
@@ -65,8 +66,9 @@ fn answer_to(
     }
 }
 
-// Judges a case by the library, with the ledgers and the buffer as they are before the call: whether the answer, and
-// the checksum of what the call leaves, are those of the other implementation. If not, the case is printed.
+/// Judges a case by the library, with the ledgers and the buffer as they are before the call:
+/// whether the answer, and the checksum of what the call leaves, are those of the other
+/// implementation. If not, the case is printed.
 pub fn judge(
     rt: &impl Print,
     texts: Texts<'_, '_, '_>,

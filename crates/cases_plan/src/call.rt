@@ -1,10 +1,10 @@
-// The calls that a case may ask for.
 ghost use Rattle.cases_plan.specs.Call.{Decodes};
 
 use cases_files::reading::Malformed;
 use std::fmt;
 use std::fmt::Display;
 
+/// The calls that a case may ask for.
 #[derive(Clone, Copy)]
 pub enum Call {
     CheckNetwork,
@@ -17,7 +17,7 @@ pub enum Call {
     ComparePlans,
 }
 
-// All of them, in the order in which they are counted and printed.
+/// All of them, in the order in which they are counted and printed.
 pub const CALLS: [Call; 8] = [
     Call::CheckNetwork,
     Call::CheckPlan,

@@ -1,4 +1,5 @@
-// The checksum of two ledgers and a buffer: FNV-1a of 64 bits over the numbers in order, each as four bytes, the lowest first, then over the bytes.
+// The checksum of two ledgers and a buffer: FNV-1a of 64 bits over the numbers in order, each as
+// four bytes, the lowest first, then over the bytes.
 ghost use Rattle.std.specs.Prelude.{◌≡◌, fold};
 ghost use Rattle.cases_plan.specs.Checksum.{with_byte, with_number, checksum_of};
 
@@ -36,7 +37,7 @@ fn with_numbers(start: u64, numbers: &[u32]) -> u64
         .fold(start, |sum, number| with_number(sum, *number))
 }
 
-// The checksum of two ledgers and a buffer; that of fewer where one is empty.
+/// The checksum of two ledgers and a buffer; that of fewer where one is empty.
 pub fn checksum(ledger: &[u32], second_ledger: &[u32], buffer: &[u8]) -> u64
     ensures { result ≡ checksum_of ledger.now second_ledger.now buffer.now }
 {

@@ -8,8 +8,8 @@ use std::io::Read;
 // In place of a length: the same text or numbers as in the case before.
 const SAME: u32 = u32::MAX;
 
-// Reads what a case gives, after its length, by a function, to the start of a room that may already have what the case before
-// had; returns how many items there are now.
+// Reads what a case gives, after its length, by a function, to the start of a room that may already
+// have what the case before had; returns how many items there are now.
 fn read_to<R: Read, T, F: FnOnce(&mut R, &mut [T]) -> Result<(), Malformed>>(
     file: &mut R,
     before: Option<usize>,
@@ -31,8 +31,9 @@ fn read_to<R: Read, T, F: FnOnce(&mut R, &mut [T]) -> Result<(), Malformed>>(
     Ok(Some(length))
 }
 
-// A text or numbers, at the start of a room for the longest; none before the first case. The length stands beside the room: there is no heap for a `Vec`, and a
-// slice cut to it would have no room for a longer one.
+/// A text or numbers, at the start of a room for the longest; none before the first case. The length
+/// stands beside the room: there is no heap for a `Vec`, and a slice cut to it would have no room
+/// for a longer one.
 #[derive(Drop)]
 pub struct Kept<'a, T> {
     room: &'a mut [T],
@@ -40,6 +41,7 @@ pub struct Kept<'a, T> {
 }
 
 impl<'a, T> Kept<'a, T> {
+    /// Room in which nothing is kept yet.
     pub fn new(room: &'a mut [T]) -> Self
         ensures empty { kept_in result.room.now result.length ≡ None }
         ensures room { result.room.now ≡ room.entry.now }
@@ -47,8 +49,9 @@ impl<'a, T> Kept<'a, T> {
         Kept { room, length: None }
     }
 
-    // Reads what a case gives, after its length, by a function; or keeps what the case before had. A function of its own
-    // hands it out: while a result borrows from `self`, nothing can be said of what `self` keeps.
+    /// Reads what a case gives, after its length, by a function; or keeps what the case before had.
+    /// A function of its own hands it out: while a result borrows from `self`, nothing can be said
+    /// of what `self` keeps.
     pub fn read<R: Read, F: FnOnce(&mut R, &mut [T]) -> Result<(), Malformed>>(
         &mut self,
         file: &mut R,
@@ -61,7 +64,7 @@ impl<'a, T> Kept<'a, T> {
         Ok(())
     }
 
-    // What the case has; malformed if it is the first and gives nothing.
+    /// What the case has; malformed if it is the first and gives nothing.
     pub fn items(&self) -> Result<&[T], Malformed>
         ensures { IfOk result (λ items. kept_in self.now.room.now self.now.length ≡ Some items.now) }
     {

@@ -1,4 +1,5 @@
-// Reads the stored form of the cases, one part at a time. The form is described in reference/src/cases/stored.rs.
+// Reads the stored form of the cases, one part at a time. The form is described in
+// reference/src/cases/stored.rs.
 ghost use Rattle.std.specs.Prelude.{IfOk};
 ghost use Rattle.std.specs.Io.KnownBytes.{Consumes};
 ghost use Rattle.cases_plan.specs.Stored.{filled_bytes, asked_bytes, second_bytes, second_filled_bytes, reported_bytes, IsQuestionOf};
@@ -11,14 +12,15 @@ use std::fmt;
 use std::fmt::Display;
 use std::io::Read;
 
-// A ledger or a buffer before the call: its length, and what it holds where nothing is given.
+/// A ledger or a buffer before the call: its length, and what it holds where nothing is given.
 #[derive(Clone, Copy)]
 pub struct Filled {
     pub length: usize,
     pub fill: u32,
 }
 
-// What a case asks: the buffer that the call is given, the call, and the boundary and the link of it.
+/// What a case asks: the buffer that the call is given, the call, and the boundary and the link of
+/// it.
 #[derive(Clone, Copy)]
 pub struct Asked {
     pub buffer: Filled,
@@ -27,7 +29,7 @@ pub struct Asked {
     pub link: u64,
 }
 
-// An outcome, and the checksum of the ledgers and the buffer that are left.
+/// An outcome, and the checksum of the ledgers and the buffer that are left.
 #[derive(Clone, Copy, PartialEq)]
 pub struct Reported {
     pub outcome: Outcome,
@@ -41,7 +43,7 @@ impl Display for Reported {
 }
 
 impl Asked {
-    // The question; none if the boundary or the link is greater than a call can take.
+    /// The question; none if the boundary or the link is greater than a call can take.
     pub fn question(self) -> Option<Question>
         ensures { IsQuestionOf self result }
     {
@@ -53,14 +55,14 @@ impl Asked {
     }
 }
 
-// Fills a text from the file.
+/// Fills a text from the file.
 pub fn read_bytes<R: Read>(file: &mut R, text: &mut [u8]) -> Result<(), Malformed>
     ensures { IfOk result (λ _. Consumes (R.remaining file.old) (R.remaining file.new) text.new) }
 {
     Ok(file.read_exact(text)?)
 }
 
-// Reads a length and what fills it.
+/// Reads a length and what fills it.
 pub fn read_filled<R: Read>(file: &mut R) -> Result<Filled, Malformed>
     ensures { IfOk result (λ filled. Consumes (R.remaining file.old) (R.remaining file.new) (filled_bytes filled)) }
 {
@@ -70,6 +72,7 @@ pub fn read_filled<R: Read>(file: &mut R) -> Result<Filled, Malformed>
     })
 }
 
+/// Reads which call a case asks for, with its buffer, boundary and link.
 pub fn read_asked<R: Read>(file: &mut R) -> Result<Asked, Malformed>
     ensures { IfOk result (λ asked. Consumes (R.remaining file.old) (R.remaining file.new) (asked_bytes asked)) }
 {
@@ -81,7 +84,8 @@ pub fn read_asked<R: Read>(file: &mut R) -> Result<Asked, Malformed>
     })
 }
 
-// Reads the sheet that a plan is checked by, or a second plan; an empty text for a call that has none.
+/// Reads the sheet that a plan is checked by, or a second plan; an empty text for a call that has
+/// none.
 pub fn read_second<'a, R: Read>(
     file: &mut R,
     room: &'a mut [u8],
@@ -95,7 +99,7 @@ pub fn read_second<'a, R: Read>(
     }
 }
 
-// Reads the form of the second plan's ledger; an empty one for a call that has none.
+/// Reads the form of the second plan's ledger; an empty one for a call that has none.
 pub fn read_second_filled<R: Read>(file: &mut R, call: Call) -> Result<Filled, Malformed>
     ensures { IfOk result (λ filled. Consumes (R.remaining file.old) (R.remaining file.new) (second_filled_bytes call filled)) }
 {
@@ -105,7 +109,7 @@ pub fn read_second_filled<R: Read>(file: &mut R, call: Call) -> Result<Filled, M
     }
 }
 
-// Reads what the other implementation answers.
+/// Reads what the other implementation answers.
 pub fn read_reported<R: Read>(file: &mut R) -> Result<Reported, Malformed>
     ensures { IfOk result (λ reported. Consumes (R.remaining file.old) (R.remaining file.new) (reported_bytes reported)) }
 {

@@ -9,16 +9,18 @@ use std::fmt::Display;
 // How many counters each call has: accepted, and each refusal's number.
 const ANSWERS: usize = 36;
 
-// The counts: for each call, the cases that agreed, by answer; then these two. A flat table, since `files::run_file`
-// counts by one index.
+/// The counts: for each call, the cases that agreed, by answer; then these two. A flat table, since
+/// `files::run_file` counts by one index.
 pub const DIFFERENT: usize = CALLS.len() * ANSWERS;
 
+/// The counter of cases that were passed over.
 pub const PASSED_OVER: usize = DIFFERENT + 1;
 
+/// How many counters there are.
 pub const COUNTERS: usize = DIFFERENT + 2;
 
-// Which counter a case has: that of its call and outcome if it agrees. A refusal number above 35 has none, and counts as
-// different.
+/// Which counter a case has: that of its call and outcome if it agrees. A refusal number above 35
+/// has none, and counts as different.
 pub fn place_of(call: Call, outcome: Outcome, same: bool) -> usize
     ensures { result ≡ place_of call outcome same }
 {
@@ -45,8 +47,8 @@ fn print_line(rt: &impl Print, name: impl Display + Drop, counts: &[u64; COUNTER
     let _ = println!(rt);
 }
 
-// The table of the cases that agreed, and how many were passed over and differ. A failed write is ignored; no contract
-// can say what an output takes.
+/// The table of the cases that agreed, and how many were passed over and differ. A failed write is
+/// ignored; no contract can say what an output takes.
 pub fn print_table(rt: &impl Print, counts: &[u64; COUNTERS]) {
     let _ = print!(rt; "answer");
     for call in CALLS {

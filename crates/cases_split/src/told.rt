@@ -1,4 +1,5 @@
-// The answer of a split and its four texts in the stored form, which is described in reference/src/cases/split_file.rs.
+// The answer of a split and its four texts in the stored form, which is described in
+// reference/src/cases/split_file.rs.
 ghost use Rattle.std.specs.Prelude.{◌≡◌, IfOk};
 ghost use Rattle.std.specs.Io.KnownBytes.{Consumes};
 ghost use Rattle.split.specs.Splitting.{buffers};
@@ -9,14 +10,14 @@ use cases_files::reading::{Malformed, read_u32};
 use model_split::Lengths;
 use std::io::Read;
 
-// The texts of the network and the plan that are split.
+/// The texts of the network and the plan that are split.
 #[derive(Clone, Copy)]
 pub struct Texts<'a> {
     pub network: &'a [u8],
     pub plan: &'a [u8],
 }
 
-// What was stored of a split, by its number from 0: the set of links, and the answer.
+/// What was stored of a split, by its number from 0: the set of links, and the answer.
 #[derive(Clone, Copy)]
 pub struct Stored {
     pub number: u32,
@@ -24,8 +25,8 @@ pub struct Stored {
     pub answer: Result<Lengths, Refusal>,
 }
 
-// The four buffers after a split, or what was stored of them, a room for each. `Lengths` is a type of its own: the
-// names say more than one `Four<T>` would.
+/// The four buffers after a split, or what was stored of them, a room for each. `Lengths` is a type
+/// of its own: the names say more than one `Four<T>` would.
 #[derive(Clone, Copy)]
 pub struct Buffers<'a> {
     pub network_1: &'a [u8],
@@ -34,7 +35,7 @@ pub struct Buffers<'a> {
     pub plan_2: &'a [u8],
 }
 
-// Whether each buffer holds what was stored of it, and is no longer than the room of that.
+/// Whether each buffer holds what was stored of it, and is no longer than the room of that.
 pub fn are_as_told(left: Buffers<'_>, told: Buffers<'_>) -> bool
     ensures { result ≡ left_as_told (buffers left.entry.network_1.now left.entry.plan_1.now left.entry.network_2.now left.entry.plan_2.now) (buffers told.entry.network_1.now told.entry.plan_1.now told.entry.network_2.now told.entry.plan_2.now) }
 {
@@ -44,7 +45,7 @@ pub fn are_as_told(left: Buffers<'_>, told: Buffers<'_>) -> bool
         && told.plan_2.starts_with(left.plan_2)
 }
 
-// The lengths of the buffers of a case.
+/// The lengths of the buffers of a case.
 pub fn read_lengths<R: Read>(file: &mut R) -> Result<Lengths, Malformed>
     ensures { IfOk result (λ lengths. Consumes (R.remaining file.old) (R.remaining file.new) (lengths_bytes lengths)) }
 {

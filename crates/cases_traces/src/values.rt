@@ -1,5 +1,6 @@
-// Values of the stored form, which are 64-bit floats by their bits. A NaN is one value, whatever its bits are: the
-// toolchain fixes neither the value of a NaN's bits nor the bits of a NaN, so both are defined here.
+// Values of the stored form, which are 64-bit floats by their bits. A NaN is one value, whatever
+// its bits are: the toolchain fixes neither the value of a NaN's bits nor the bits of a NaN, so
+// both are defined here.
 ghost use Rattle.std.specs.Prelude.{◌≡◌, length, IfOk};
 ghost use Rattle.std.specs.Float.{binary64};
 ghost use Rattle.std.specs.List.{list_all, zip};
@@ -9,7 +10,8 @@ ghost use Rattle.cases_traces.specs.Values.{same_value, same_values, ValueRead, 
 use cases_files::reading::{Malformed, read_each, read_u64};
 use std::io::Read;
 
-// The bits of an infinity, and the weight of the sign: without the sign, a NaN's bits are a number above the former.
+// The bits of an infinity, and the weight of the sign: without the sign, a NaN's bits are a number
+// above the former.
 const INFINITY: u64 = 0x7ff0_0000_0000_0000;
 
 const SIGN: u64 = 1 << 63;
@@ -42,15 +44,15 @@ fn is_same(one: f64, other: f64) -> bool
     bits_of(one) == bits_of(other)
 }
 
-// Whether every value is as stored, and there are as many.
+/// Whether every value is as stored, and there are as many.
 pub fn are_same(values: &[f64], told: &[f64]) -> bool
     ensures { result ≡ same_values values.now told.now }
 {
     values.len() == told.len() && all_same(values, told)
 }
 
-// Whether the values are the same one by one, up to the end of the shorter list. A function of its own: after the `&&`
-// of `are_same`, `search` does not prove it.
+// Whether the values are the same one by one, up to the end of the shorter list. A function of its
+// own: after the `&&` of `are_same`, `search` does not prove it.
 fn all_same(values: &[f64], told: &[f64]) -> bool
     ensures { result ≡ list_all (λ p. same_value p.0 p.1) (zip values.now told.now) }
 {
@@ -60,13 +62,14 @@ fn all_same(values: &[f64], told: &[f64]) -> bool
         .all(|(value, stored)| is_same(*value, *stored))
 }
 
+/// The next value, a float of 64 bits; every NaN is one value.
 pub fn read_value<R: Read>(file: &mut R) -> Result<f64, Malformed>
     ensures { IfOk result (λ value. ValueRead (R.remaining file.old) (R.remaining file.new) value) }
 {
     Ok(value_of(read_u64(file)?))
 }
 
-// Reads `count` values to the start of a room that must be large enough.
+/// Reads `count` values to the start of a room that must be large enough.
 pub fn read_values<'a, R: Read>(
     file: &mut R,
     room: &'a mut [f64],

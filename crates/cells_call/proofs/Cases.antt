@@ -61,7 +61,8 @@ idle = "D\t0\n"
 
 abbrev cases : List Case
 cases =
-    -- two cells: of 7 and 100 flow in 7 and 10, nothing and then 5 flow out, and the first step's inflow does not flow on in it
+    -- two cells: of 7 and 100 flow in 7 and 10, nothing and then 5 flow out, and the first step's
+    -- inflow does not flow on in it
     record { text = cell ++ "C\t8\t50\t1000\t0\nX\t5\nD\t7\nD\t100\n"; told = ran 2 17 5; volumes = 21 ∷ 11 ∷ [] }
     -- one cell is first and last; what does not fit is gone
     ∷ record { text = "C\t9\t10\t1000\t3\nX\t2\nD\t100\nD\t0\n"; told = ran 1 7 4; volumes = 6 ∷ [] }

@@ -51,7 +51,8 @@ abbrev pub volumes_in : Result CellsRun Refusal → List ℕ
 volumes_in (Ok run) = run.volumes
 volumes_in (Err r) = zeros 64
 
--- what a run that is not refused keeps: its chain for every list of demands, and what it gives back for those of the text
+-- what a run that is not refused keeps: its chain for every list of demands, and what it gives back
+-- for those of the text
 pub record Kept (text : List Line) (run : CellsRun) : Type 0 where
   pub always : Keeps (chain text) (starts text)
   -- no cell has passed its holding limit

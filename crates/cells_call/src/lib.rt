@@ -9,7 +9,8 @@ ghost use Rattle.cells_call.specs.Call.{run_cells, final_volumes, RunKeeps};
 use base_search::Refusal;
 use cells_steps::{Cell, MAX_CELLS, MAX_DEMANDS};
 
-// What a run gives: how many cells there are, the total flow in and out, and the final volumes, 0 past the cells.
+/// What a run gives: how many cells there are, the total flow in and out, and the final volumes, 0
+/// past the cells.
 #[derive(Clone, Copy)]
 pub struct CellsRun {
     pub cells: u32,
@@ -18,7 +19,7 @@ pub struct CellsRun {
     pub volumes: [u32; MAX_CELLS],
 }
 
-// Runs the steps of a corridor text, one for each demand.
+/// Runs the steps of a corridor text, one for each demand.
 pub fn run_cells(text: &[u8]) -> Result<CellsRun, Refusal>
     ensures answer_value { result ≡ run_cells (lines text.now) }
     ensures volumes_value { IfOk result (λ run. run.volumes ≡ final_volumes (lines text.now)) }

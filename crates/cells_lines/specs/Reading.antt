@@ -10,14 +10,16 @@ use Rattle.cells_lines.specs.declared.Corridor.{Corridor}
 use Rattle.cells_lines.specs.Corridor.{letter_c, cell_of, start_of, cell_line_checks, volume_form, cell_count, demand_count, cell_checks, demand_checks, corridor_checks, chain, starts, demand_volume, demands}
 
 -- ---- one line
--- the line at a place passes as `C` line n: its cell, the cell's start, and the place of the next line
+-- the line at a place passes as `C` line n: its cell, the cell's start, and the place of the next
+-- line
 pub record CellRead (n : ℕ) (text : List ℕ) (at : ℕ) (cell : Cell) (start next : ℕ) : Type 0 where
   pub passed : verdict (cell_line_checks n (line_at text at)) ≡ Ok tt
   pub cell-is : cell ≡ cell_of (line_at text at)
   pub start-is : start ≡ start_of (line_at text at)
   pub place : record_at letter_c 4 text at ≡ Some next
 
--- the line at a place is one of this letter and one volume: the volume, and the place of the next line
+-- the line at a place is one of this letter and one volume: the volume, and the place of the next
+-- line
 pub record VolumeRead (letter : ℕ) (text : List ℕ) (at volume next : ℕ) : Type 0 where
   pub form : volume_form letter (line_at text at) ≡ true
   pub volume-is : volume ≡ number (line_at text at) 0

@@ -1,4 +1,5 @@
--- The steps of a chain of cells. Cells and borders are counted from 0: border i is the way into cell i, the last border is the way out.
+-- The steps of a chain of cells. Cells and borders are counted from 0: border i is the way into
+-- cell i, the last border is the way out.
 use Rattle.std.specs.Prelude.{ℕ, zero, suc, ◌+◌, ◌-◌, ◌*◌, ◌/◌, ◌≤◌, ◌<◌, min, ◌≡◌, if◌then◌else◌, List, [], ◌∷◌, nat_lt, length, slice_index, slice_index_or}
 use Rattle.base_laws.specs.Indexed.{list}
 use Rattle.cells_steps.specs.declared.Cell.{Cell}
@@ -18,13 +19,15 @@ no_cell = record { flow_limit = 0; holding_limit = 0; wave_ratio = 0 }
 abbrev pub cell_at : Chain → ℕ → Cell
 cell_at chain i = slice_index_or chain.cells i no_cell
 
--- the flow into a cell of this volume: the least of what waits before it, its flow limit, and wave ratio × (holding limit − volume), rounded down
+-- the flow into a cell of this volume: the least of what waits before it, its flow limit, and wave
+-- ratio × (holding limit − volume), rounded down
 unfoldable pub inflow : Cell → ℕ → ℕ → ℕ
 inflow cell waiting volume = min (min waiting cell.flow_limit) (cell.wave_ratio * (cell.holding_limit - volume) / 1000)
 
 -- ---- one step: all flows use the volumes before it
 module _ (chain : Chain) where
-  -- the flow out of cell i, which holds this volume: into the next cell, or, out of the last, the least of its volume and the exit limit
+  -- the flow out of cell i, which holds this volume: into the next cell, or, out of the last, the
+  -- least of its volume and the exit limit
   unfoldable pub outflow : List ℕ → ℕ → ℕ → ℕ
   outflow volumes i volume =
       if nat_lt (suc i) (length volumes)

@@ -5,11 +5,13 @@ ghost use Rattle.std.specs.Prelude.{◌≡◌, ◌≤◌, length};
 ghost use Rattle.cells_steps.specs.Steps.{chain_of, inflow, Ready};
 ghost use Rattle.cells_steps.specs.Results.{Stepped, Ran};
 
+/// The most cells of a corridor.
 pub const MAX_CELLS: usize = 64;
 
+/// The most steps of a corridor, each with its demand.
 pub const MAX_DEMANDS: usize = 120;
 
-// The limits of a cell. Its wave ratio is in thousandths.
+/// The limits of a cell. Its wave ratio is in thousandths.
 #[derive(Clone, Copy, Default)]
 pub struct Cell {
     pub flow_limit: u32,
@@ -30,15 +32,15 @@ impl Cell {
     }
 }
 
-// What flows into the first cell and out of the last.
+/// What flows into the first cell and out of the last.
 #[derive(Clone, Copy)]
 pub struct Passed<T> {
     pub flow_in: T,
     pub flow_out: T,
 }
 
-// One step, cell by cell. The flow out of a cell depends on its volume before the step, not on what has just entered
-// it; it enters the next cell, or leaves by the exit.
+// One step, cell by cell. The flow out of a cell depends on its volume before the step, not on what
+// has just entered it; it enters the next cell, or leaves by the exit.
 fn step_cells(cells: &[Cell], exit: u32, demand: u32, volumes: &mut [u32]) -> Passed<u32>
     requires { Ready (chain_of cells.now exit) volumes.old }
     ensures { Stepped (chain_of cells.now exit) demand volumes.old result volumes.new }
@@ -64,7 +66,7 @@ fn step_cells(cells: &[Cell], exit: u32, demand: u32, volumes: &mut [u32]) -> Pa
     }
 }
 
-// A list of steps, one for each demand.
+/// A list of steps, one for each demand.
 pub fn run_steps(cells: &[Cell], exit: u32, demands: &[u32], volumes: &mut [u32]) -> Passed<u64>
     requires ready { Ready (chain_of cells.now exit) volumes.old }
     requires demands_len_bound { length demands.now ≤ MAX_DEMANDS }

@@ -53,7 +53,8 @@ repeats : judged 200 "i_1_1 0.5\ni_1_1 0.5\n" ∷ judged 200 "i_1_1 0\ni_1_2 0\n
 unfolding listing-opened
 repeats = refl
 
--- what the network has not: 2 links, 1 movement, 1 signal of 2 phases, 4 steps; 4294967297 is not link 1
+-- what the network has not: 2 links, 1 movement, 1 signal of 2 phases, 4 steps; 4294967297 is not
+-- link 1
 strangers : map (judged 200) ("i_3_1 0\n" ∷ "i_0_1 0\n" ∷ "i_4294967297_1 0\n" ∷ "i_1_5 0\n" ∷ "i_1_0 0\n" ∷ "o_3_1 0\n" ∷ "m_2_1 0\n" ∷ "p_2_1_1 0\n" ∷ "p_1_3_1 0\n" ∷ "p_1_0_1 0\n" ∷ [])
     ≡ map (λ (s : String). Err (refusal 22 1 0)) ("" ∷ "" ∷ "" ∷ "" ∷ "" ∷ "" ∷ "" ∷ "" ∷ "" ∷ "" ∷ [])
 unfolding listing-opened

@@ -1,4 +1,5 @@
--- The columns of a step: each variable has its own bit, and each number is of one volume or of the phases of one signal.
+-- The columns of a step: each variable has its own bit, and each number is of one volume or of the
+-- phases of one signal.
 use Rattle.base_laws.proofs.Kit.{ℕ, suc, ◌-◌, ◌<◌, ◌≡◌, refl, ◌⊎◌, inl, inr, Bool, true, false, List, arith}
 use Rattle.std.proofs.lemmas.Bool.Decides.{nat_tests}
 use Rattle.base_laws.specs.Test.{◌and◌}

@@ -1,4 +1,5 @@
--- Where the tables hold a network's numbers, what is judged and written by them is what the request says of the network.
+-- Where the tables hold a network's numbers, what is judged and written by them is what the request
+-- says of the network.
 use Rattle.base_laws.proofs.Kit.{ℕ, suc, ◌+◌, ◌-◌, ◌≤◌, ◌<◌, ◌≡◌, refl, sym, ap, ap₂, ◌∙◌, Bool, true, List, [], ◌++◌, arith, length, get_or, drop}
 use Rattle.std.proofs.lemmas.List.{get_or-drop}
 use Rattle.base_search.specs.Checks.{each, or_else, checked, verdict}

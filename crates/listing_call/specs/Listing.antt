@@ -1,5 +1,6 @@
--- Plans straight from the solver: when a listing is refused, the numbers that it gives, and the plan text that is written of them. The listing is the list of its
--- lines (crate `listing_lines`). Steps, signals, links and movements are counted from 0 here, from 1 in a variable, phases from 1.
+-- Plans straight from the solver: when a listing is refused, the numbers that it gives, and the
+-- plan text that is written of them. The listing is the list of its lines (crate `listing_lines`).
+-- Steps, signals, links and movements are counted from 0 here, from 1 in a variable, phases from 1.
 use Rattle.std.specs.Prelude.{ℕ, zero, suc, ◌*◌, ◌-◌, ◌/◌, ◌%◌, ◌^◌, Bool, true, false, if◌then◌else◌, not, List, [], ◌∷◌, ◌++◌, nat_le, ◌==◌, length, slice_index_or, Some, None, Result}
 use Rattle.base_search.specs.Checks.{Checks, check, each, ◌then◌, verdict}
 use Rattle.text_reader.specs.Field.{largest}
@@ -54,7 +55,8 @@ valid_value (Admitted i n) millionths = true
 valid_value (LetOut i n) millionths = true
 valid_value (Moved j n) millionths = true
 
--- a rate in millionths of a vehicle a second over some seconds, in thousandths of a vehicle; whether that is whole and fits a field
+-- a rate in millionths of a vehicle a second over some seconds, in thousandths of a vehicle;
+-- whether that is whole and fits a field
 unfoldable pub volume : ℕ → ℕ → ℕ
 volume millionths seconds = millionths * seconds / 1000
 
@@ -96,7 +98,8 @@ module _ (listing : List Entry) where
   value v = value_before (length listing) v
 
 -- ---- the checks, line by line: `has` says whether the network has what a variable names, `seconds` the length of each step
--- 22: line i is not malformed, the network has its variable, a phase's value is 0 or 1, and no line before sets it
+-- 22: line i is not malformed, the network has its variable, a phase's value is 0 or 1, and no line
+-- before sets it
 unfoldable pub formed_by : (Variable → Bool) → List Entry → ℕ → Entry → Bool
 formed_by has listing i (Some setting) =
     has setting.variable and valid_value setting.variable setting.millionths and not (set_before listing i setting.variable)

@@ -1,4 +1,5 @@
--- What the call promises, and its theorem: reading the written plan gives just the listing's numbers.
+-- What the call promises, and its theorem: reading the written plan gives just the listing's
+-- numbers.
 use Rattle.std.specs.Prelude.{ℕ, ◌+◌, ◌*◌, ◌-◌, ◌/◌, ◌%◌, ◌^◌, ◌≤◌, ◌<◌, ◌≡◌, true, List, length, take, Some, Result, Ok, Err}
 use Rattle.base_search.specs.declared.Refusal.{Refusal}
 use Rattle.base_search.specs.Numbers.{CanArise}
@@ -23,14 +24,16 @@ planned network plan (Admitted i n) = admitted network plan (n - 1) (i - 1)
 planned network plan (LetOut i n) = let_out network plan (n - 1) (i - 1)
 planned network plan (Moved j n) = moved network plan (n - 1) (j - 1)
 
--- a number of the plan in millionths: a phase that shows is 1, and a volume is in thousandths of a vehicle
+-- a number of the plan in millionths: a phase that shows is 1, and a volume is in thousandths of a
+-- vehicle
 unfoldable pub in_millionths : Variable → ℕ → ℕ
 in_millionths (Shown r k n) number = number * one
 in_millionths (Admitted i n) number = number * 1000
 in_millionths (LetOut i n) number = number * 1000
 in_millionths (Moved j n) number = number * 1000
 
--- what a line states of its variable, in millionths: the phase's value, or the rate over the seconds of its step
+-- what a line states of its variable, in millionths: the phase's value, or the rate over the
+-- seconds of its step
 unfoldable pub stated : List Line → Variable → ℕ → ℕ
 stated network (Shown r k n) millionths = millionths
 stated network (Admitted i n) millionths = millionths * step_length network (n - 1)
@@ -49,8 +52,9 @@ pub record ReadsBack (network : List Line) (listing : List Entry) (plan : List L
   -- and so is every bit past the phases of a signal
   pub past : (n r k : ℕ) → n < step_count network → r < signal_count network → (signal network r).phases ≤ k → bit_of (shown_mask network plan n r) k ≡ 0
 
--- the answer and the whole buffer are those of the definitions; a plan that was written has bytes, so that it does not mean hold, and reads back in every call
--- that is given it; and a refusal's number is one that can arise
+-- the answer and the whole buffer are those of the definitions; a plan that was written has bytes,
+-- so that it does not mean hold, and reads back in every call that is given it; and a refusal's
+-- number is one that can arise
 pub record PlanGot (network : List Line) (listing : List Entry) (old : List ℕ) (answer : Result ℕ Refusal) (new : List ℕ) : Type 0 where
   pub told : answer ≡ plan_from_listing network listing (length old)
   pub holds : new ≡ buffer_after network listing old

@@ -1,5 +1,6 @@
--- The program's tables of a listing's numbers, a row for each step: the numbers of its line, and a bit for each
--- variable that was set. These definitions are not those of the call: the contracts between the functions use them.
+-- The program's tables of a listing's numbers, a row for each step: the numbers of its line, and a
+-- bit for each variable that was set. These definitions are not those of the call: the contracts
+-- between the functions use them.
 use Rattle.std.specs.Prelude.{ℕ, suc, ◌+◌, ◌*◌, ◌-◌, ◌/◌, ◌%◌, ◌^◌, ◌≤◌, ◌<◌, ◌≡◌, Bool, true, false, if◌then◌else◌, List, [], ◌==◌, length, slice_index, slice_index_or, set, bit_or, Option, Some, None, Result, Ok, Err, ok_or, option_map}
 use Rattle.base_search.specs.declared.Refusal.{Refusal}
 use Rattle.base_search.specs.Checks.{Verdict, refusal, each, verdict}
@@ -36,7 +37,8 @@ pub record RowsSized (width : ℕ) (rows : List (List ℕ)) : Type 0 where
   pub row : (n : ℕ) → n < max_steps → length (slice_index_or rows n []) ≡ width
 
 -- ---- places
--- the bit of a variable among the 176 of its step: 64 for phases, 24 for admitted, 24 for let out, 64 for moved
+-- the bit of a variable among the 176 of its step: 64 for phases, 24 for admitted, 24 for let out,
+-- 64 for moved
 abbrev pub bit_column : Variable → ℕ
 bit_column (Shown r k n) = 8 * (r - 1) + (k - 1)
 bit_column (Admitted i n) = 63 + i
@@ -115,7 +117,8 @@ number_in (Admitted i n) millionths seconds = volume_in millionths seconds
 number_in (LetOut i n) millionths seconds = volume_in millionths seconds
 number_in (Moved j n) millionths seconds = volume_in millionths seconds
 
--- what a line adds to which place, by the bits of the variables that were set before; or its refusal
+-- what a line adds to which place, by the bits of the variables that were set before; or its
+-- refusal
 unfoldable pub outcome : Counts → List Signal → List ℕ → List (List ℕ) → ℕ → Setting → Result (Place × ℕ) Refusal
 outcome counts signals times seen line s =
     if has_in counts signals s.variable

@@ -11,7 +11,8 @@ use Rattle.listing_call.specs.Listing.{entry_checks_by}
 use Rattle.listing_call.specs.Tables.{has_in, Stored}
 use Rattle.network_writer.specs.Plan.{plan_lines}
 
--- by the tables: the listing is refused, or its numbers are kept in tables, by which 24 is judged and the text is written
+-- by the tables: the listing is refused, or its numbers are kept in tables, by which 24 is judged
+-- and the text is written
 pub record WriteGot (counts : Counts) (signals : List Signal) (times : List ℕ) (listing : List Entry) (old : List ℕ) (answer : Result ℕ Refusal) (new : List ℕ) : Type 0 where
   pub stopped : (r : Refusal) → verdict (each (length listing) (entry_checks_by (has_in counts signals) (seconds_in times) listing)) ≡ Err r
       → (answer ≡ Err r) × (new ≡ old)

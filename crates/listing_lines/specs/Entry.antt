@@ -1,5 +1,5 @@
--- What a line of a solver's listing says: a variable, a space and a decimal. All that is above the reader is stated over the list of entries alone,
--- never over bytes.
+-- What a line of a solver's listing says: a variable, a space and a decimal. All that is above the
+-- reader is stated over the list of entries alone, never over bytes.
 use Rattle.std.specs.Prelude.{ℕ, ◌==◌, ◌+◌, ◌-◌, ◌*◌, ◌^◌, ◌≡◌, List, [], ◌∷◌, Bool, if◌then◌else◌, ◌&&◌, length, take, drop, slice_index, slice_index_or, nat_le, nat_lt, Option, Some, None, option_map, option_and_then}
 use Rattle.std.specs.List.{position, position_or_len, slice_split}
 use Rattle.std.specs.Option.{option_zip}
@@ -52,8 +52,9 @@ letter_moved = 109
 abbrev pub leading_zero : List ℕ → Bool
 leading_zero bs = nat_lt 1 (length bs) && slice_index bs 0 == 48
 
--- a number of a name: digits without a leading zero. The listing has its own grammar, since that of the records may
--- change. A number of more than ten digits names what no network has, and is refused too.
+-- a number of a name: digits without a leading zero. The listing has its own grammar, since that of
+-- the records may change. A number of more than ten digits names what no network has, and is
+-- refused too.
 abbrev pub index_of : List ℕ → Option ℕ
 index_of bs = if leading_zero bs then None else digits_of 10 bs
 

@@ -4,7 +4,7 @@
 ghost use Rattle.std.specs.Prelude.{◌≡◌, ◌-◌, ◌<◌, ◌≤◌, ◌^◌, length, MatchOption, IfSome, OnSome};
 ghost use Rattle.listing_lines.specs.Entry.{split_once, digits_of, fraction_of, rate_of, index_of, pair_of, phase_in, variable_in, variable_of, entry_of, read_at};
 
-// A variable, by the numbers in its name, counted from 1.
+/// A variable, by the numbers in its name, counted from 1.
 #[derive(Clone, Copy)]
 pub enum Variable {
     Shown { signal: u64, phase: u64, step: u64 },
@@ -13,7 +13,7 @@ pub enum Variable {
     Moved { movement: u64, step: u64 },
 }
 
-// What a line sets a variable to.
+/// What a line sets a variable to.
 #[derive(Clone, Copy)]
 pub struct Setting {
     pub variable: Variable,
@@ -25,7 +25,7 @@ const MAX_DIGITS: usize = 10;
 
 const MAX_DECIMALS: usize = 6;
 
-// The value 1, in millionths.
+/// The value 1, in millionths.
 pub const ONE: u64 = 1_000_000;
 
 // The bytes before and after the first such byte.
@@ -146,7 +146,7 @@ fn entry_of(bytes: &[u8]) -> Option<Setting>
     })
 }
 
-// Reads the line at a place, with the place of the next. A line without a line feed is malformed.
+/// Reads the line at a place, with the place of the next. A line without a line feed is malformed.
 #[tactic(auto, using(crate::proofs::Lines::at_a_place))]
 pub fn entry_at(text: &[u8], at: usize) -> Option<(Setting, usize)>
     ensures value { result ≡ read_at text.now at }

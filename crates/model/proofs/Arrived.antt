@@ -1,5 +1,6 @@
--- arrived(n) by the step in which the travel time ends; where that is a boundary, and before the timeline has run for the travel time, it is what the model says;
--- and in an arrival before time 0 no plan has a say.
+-- arrived(n) by the step in which the travel time ends; where that is a boundary, and before the
+-- timeline has run for the travel time, it is what the model says; and in an arrival before time 0
+-- no plan has a say.
 use Rattle.base_laws.proofs.Kit.{◌≡◌, sym, ap, ◌∙◌, ◌⊎◌, inl, inr, List, ℕ, suc, ◌+◌, ◌*◌, ◌-◌, ◌≤◌, ◌<◌, dec_le, eq-or-lt_of_le, mul-le-mul_right, arith, leb, le-leb, lt-leb, lt-ltb, le-ltb}
 use Rattle.text_reader.specs.Lines.{Line}
 use Rattle.base_laws.specs.Sum.{sum}

@@ -1,6 +1,7 @@
--- How large the sums of a plan can be, for a program that forms them in words of 32 and 64 bits: right after the limits of its volumes have passed at a step.
--- At most 23 movements lead into a link, and from one, since (from, to) rises and from is not to. One step may admit all that waits, so what has entered is
--- bounded by what came to the entry and by refusal 30.
+-- How large the sums of a plan can be, for a program that forms them in words of 32 and 64 bits:
+-- right after the limits of its volumes have passed at a step. At most 23 movements lead into a
+-- link, and from one, since (from, to) rises and from is not to. One step may admit all that waits,
+-- so what has entered is bounded by what came to the entry and by refusal 30.
 use Rattle.base_laws.proofs.Kit.{◌≡◌, refl, sym, ap, ◌∙◌, Bool, true, false, cond, ◌⊎◌, inl, inr, ⊎_elim, ◌≢◌, List, ℕ, zero, suc, ◌+◌, ◌*◌, ◌-◌, ◌≤◌, ◌<◌, eq-or-lt_of_le, le_trans, mul-le-mul, mul-le-mul_right, arith, dec_le, eqb, ltb, leb-true, ltb-true, eqb-true, eqb-false, not-true, lt-ltb, le-ltb}
 use Rattle.base_search.specs.Checks.{Hold}
 use Rattle.text_reader.specs.Lines.{Line}
@@ -17,7 +18,8 @@ use Rattle.model.proofs.Timeline.{entered-start, entered_by, left_by}
 use Rattle.model.proofs.Flow.{held-capacity, left-entered}
 use Rattle.model.proofs.Waiting.{offered-more, taken-offered}
 
--- numbers at the places of a test, each at most b, whose ranks rise and lie between 1 and c: there are at most c of them
+-- numbers at the places of a test, each at most b, whose ranks rise and lie between 1 and c: there
+-- are at most c of them
 ranked-sum : (test : ℕ → Bool) (rank f : ℕ → ℕ) (b m c : ℕ)
     → ((j k : ℕ) → j < k → k < m → test j ≡ true → test k ≡ true → rank j < rank k)
     → ((j : ℕ) → j < m → test j ≡ true → (1 ≤ rank j) × (rank j ≤ c))

@@ -1,4 +1,5 @@
--- The cycle clock counts the ordinary seconds of a cycle: of one that begins in the plan, and of the one that runs at time 0.
+-- The cycle clock counts the ordinary seconds of a cycle: of one that begins in the plan, and of
+-- the one that runs at time 0.
 use Rattle.base_laws.proofs.Kit.{◌≡◌, refl, sym, ap, ◌∙◌, Bool, true, false, not, ◌||◌, ◌≢◌, List, ℕ, zero, suc, ◌+◌, ◌-◌, ◌≤◌, ◌<◌, le_refl, le_of_lt, ℕ_discrete, arith, leb, leb-true, eq-eqb, ne_eqb}
 use Rattle.text_reader.specs.Lines.{Line}
 use Rattle.model.specs.declared.Signal.{Signal}

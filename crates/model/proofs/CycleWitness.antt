@@ -1,4 +1,5 @@
--- No guarantee on cycles is empty: in a plan that is accepted, cycles of signal 1 begin at boundaries 1 and 3, and none of signal 2. All limits are reached.
+-- No guarantee on cycles is empty: in a plan that is accepted, cycles of signal 1 begin at
+-- boundaries 1 and 3, and none of signal 2. All limits are reached.
 use Rattle.base_laws.proofs.Kit.{◌≡◌, refl, List, ℕ, zero, suc, ◌+◌, ◌<◌, arith}
 use Prim.Native.String.{String, ◌++◌}
 use Rattle.text_reader.specs.Lines.{Line, lines}
@@ -54,7 +55,8 @@ second-shows (suc (suc (suc (suc n)))) l = absurd (omega arith)
 begins : (a : ℕ) → a < 4 → phase network plan 0 a ≡ 2 → phase network plan 0 (suc a) ≡ 1 → CycleBegins network plan 0 a
 begins a l d e = green-from network plan 0 a 1 (omega arith) (omega (arith, two-phases)) (omega (arith, steps)) (λ f. omega arith) e
 
--- signal 1: the cycle that runs at time 0 ends at boundary 1, the next at boundary 3, and the last runs at the end
+-- signal 1: the cycle that runs at time 0 ends at boundary 1, the next at boundary 3, and the last
+-- runs at the end
 pub first-begins : CycleBegins network plan 0 1
 first-begins = begins 1 (omega arith) first-shows.0 first-shows.1
 

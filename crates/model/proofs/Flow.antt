@@ -65,7 +65,8 @@ module _ (network plan : List Line) where
       | no u ↦ rw (none-elapsed (omega arith)) (omega (arith, mul-le-mul_right s (timeline-entered-more network plan a end i (arrival-step-le network n i))))
     ]
 
-    -- .. nor than stood there at the start and the parts that are over: all of the steps before, and of the step itself the elapsed part
+    -- .. nor than stood there at the start and the parts that are over: all of the steps before,
+    -- and of the step itself the elapsed part
     whole-over : (m : ℕ) → m < a → timeline_inflow network plan m i ≤ over n i m
     unfolding seconds_over
     whole-over m u =
@@ -105,7 +106,8 @@ module _ (network plan : List Line) where
           ]
 
   module _ (valid : ValidNetwork network) where
-    -- by refusal 30 and rules 17 and 18, a link has let go at most what has arrived and holds at most its capacity
+    -- by refusal 30 and rules 17 and 18, a link has let go at most what has arrived and holds at
+    -- most its capacity
     pub left-arrived : (n i : ℕ) → i < link_count network → ((m : ℕ) → m < n → rule17 network plan m i ≡ true) → has_arrived network plan (left network plan n i) n i ≡ true
     left-arrived zero i l k =
         let travel = (link-limits network valid i l).some-travel in
@@ -147,7 +149,8 @@ module _ (network plan : List Line) where
     left_step n =
         sum-grows (link_count network) (left network plan (suc n)) (left network plan n) (let_out network plan n) (moved_from network plan n) (λ i l. left-suc network plan n i) (from_all n)
 
-    -- while rule 17 is kept, the network holds what has entered and not left, and a step changes that by what it admits and lets out
+    -- while rule 17 is kept, the network holds what has entered and not left, and a step changes
+    -- that by what it admits and lets out
     vehicles-are : (n : ℕ) → n ≤ step_count network → ((m i : ℕ) → m < n → i < link_count network → rule17 network plan m i ≡ true)
         → vehicles network plan n + sum (link_count network) (left network plan n) ≡ sum (link_count network) (entered network plan n)
     unfolding vehicles held

@@ -1,4 +1,5 @@
--- The plan that an empty text stands for: what its lines say, and that it is answered as its written text is.
+-- The plan that an empty text stands for: what its lines say, and that it is answered as its
+-- written text is.
 use Rattle.base_laws.proofs.Kit.{ℕ, zero, suc, ◌+◌, ◌*◌, ◌-◌, ◌^◌, ◌≤◌, ◌<◌, ◌≡◌, refl, sym, ap, ◌∙◌, Bool, true, false, cond, List, [], ◌∷◌, dec_lt, arith, lt-ltb, leb-true, le-ltb, ltb, length, List·getD-eq-default}
 use Rattle.base_search.specs.declared.Refusal.{Refusal}
 use Rattle.base_search.specs.Checks.{verdict, Verdict}

@@ -1,4 +1,5 @@
--- Networks with a past, and with vehicles that wait at the start, by computation on the definitions.
+-- Networks with a past, and with vehicles that wait at the start, by computation on the
+-- definitions.
 use Rattle.base_laws.proofs.Kit.{◌≡◌, refl, List, [], ◌∷◌, map, ℕ, zero, suc, replicate}
 use Prim.Native.String.{String, ◌++◌}
 use Rattle.text_reader.specs.Lines.{lines}
@@ -11,7 +12,8 @@ use Rattle.std.specs.Prelude.{Result, Err, Ok}
 use Rattle.model.specs.declared.LinkState.{LinkState}
 use Rattle.base_search.specs.declared.Refusal.{Refusal}
 
--- one link, and one step of 10 seconds: the count of `H` lines, the `Q` line's numbers, these lines and what follows, the demand left open
+-- one link, and one step of 10 seconds: the count of `H` lines, the `Q` line's numbers, these lines
+-- and what follows, the demand left open
 abbrev on_link : String → String → String → String → String
 on_link past link lines demand = "N\t1\t0\t0\t1\t0\t" ++ past ++ "\nQ\t" ++ link ++ "\n" ++ lines ++ "S\t10\t" ++ demand ++ "\n"
 
@@ -73,7 +75,8 @@ past_groups =
       plan = "";
       prints = "R\t30\t0\t0\n";
     }
-    -- left above arrived when the past ends, unrounded: of 2001 that entered in 10 seconds half has arrived
+    -- left above arrived when the past ends, unrounded: of 2001 that entered in 10 seconds half has
+    -- arrived
     ∷ record { networks = past_steps "2" "H\t10\t2001\t0\nH\t10\t0\t2001\n" ∷ past_steps "1" "H\t10\t0\t1001\n" ∷ []; plan = ""; prints = "R\t30\t0\t0\n" }
     ∷ record { networks = past_steps "2" "H\t10\t2001\t0\nH\t10\t0\t2000\n" ∷ []; plan = ""; prints = "A\t0\t0\t1001\t20020\nB\t0\t0\t3001\t2000\nB\t1\t10\t3001\t2000\n" }
     -- within the past it may leave before it arrives, and hold more than the capacity

@@ -1,4 +1,5 @@
--- Between a green of a phase and its next green every other phase has one green, in order, and the red is as long as those.
+-- Between a green of a phase and its next green every other phase has one green, in order, and the
+-- red is as long as those.
 use Rattle.base_laws.proofs.Kit.{◌≡◌, refl, sym, ap, ◌∙◌, Bool, true, false, ◌⊎◌, inl, inr, ⊎_elim, ◌≢◌, List, [], ◌∷◌, ℕ, zero, suc, ◌+◌, ◌*◌, ◌-◌, ◌≤◌, ◌<◌, leb-true, eq-or-lt_of_le, le_refl, ℕ_discrete, dec_le, arith}
 use Rattle.text_reader.specs.Lines.{Line}
 use Rattle.model.specs.declared.Signal.{Signal}
@@ -75,7 +76,8 @@ module _ (network plan : List Line) (r : ℕ) where
           omega (arith, run-new network plan r n d, seconds-on network r n (change-ordinary network plan r n d), ap (seconds network r) j)
       go (inr i) ih = on (ordinary network n r) refl (omega arith) (ih (omega arith) (omega arith))
 
-  -- the run of phase y that shows at s ends by boundary c, where the plan ends or the step after shows another
+  -- the run of phase y that shows at s ends by boundary c, where the plan ends or the step after
+  -- shows another
   run_end : (y c : ℕ) → (c < step_count network → phase network plan r (suc c) ≢ y) → (d s : ℕ) → s + d ≡ c → phase network plan r s ≡ y
       → (e : ℕ) × (s ≤ e) × (e ≤ c) × ((n : ℕ) → s ≤ n → n ≤ e → phase network plan r n ≡ y) × (e < step_count network → phase network plan r (suc e) ≢ y)
   run_end y c z zero s h f =
@@ -92,7 +94,8 @@ module _ (network plan : List Line) (r : ℕ) where
           let R = ih u in
           (R.0, omega arith, R.2, (λ n v w. ⊎_elim (λ i. ap (phase network plan r) (sym i) ∙ f) (λ i. R.3 n i w) (eq-or-lt_of_le v)), R.4)
 
-  -- the green of a run: phase y from the change after boundary b to that after e, or to the plan's end; its last ordinary step ends by e
+  -- the green of a run: phase y from the change after boundary b to that after e, or to the plan's
+  -- end; its last ordinary step ends by e
   green-of-run : (b e y : ℕ) → 1 ≤ y → y ≤ P network r → suc b ≤ e → e ≤ step_count network → phase network plan r b ≢ y
       → ((n : ℕ) → suc b ≤ n → n ≤ e → phase network plan r n ≡ y) → (e < step_count network → phase network plan r (suc e) ≢ y)
       → (l : ℕ) × (l ≤ e) × NoneBetween network r l (suc e) × Green network plan r y (suc b) l
@@ -142,7 +145,8 @@ module _ (network plan : List Line) (r : ℕ) where
     few-phases : P network r ≤ 8
     few-phases = unfold valid_phases within in leb-true (P network r) 8 (and_right _ _ (accepted.valid.phases r lr))
 
-    -- a green that starts in the plan and is left lasts at least its least and at most its greatest time: an ordinary step comes after it
+    -- a green that starts in the plan and is left lasts at least its least and at most its greatest
+    -- time: an ordinary step comes after it
     green-time : {q s e m : ℕ} → Green network plan r q (suc s) e → e < m → m ≤ step_count network → is_ordinary network r m ≡ true
         → (least_of network r q + seconds network r s ≤ seconds network r e) × (seconds network r e ≤ greatest_of network r q + seconds network r s)
     green-time {e = zero} g h l o = absurd (omega (arith, g.some-step))
@@ -191,7 +195,8 @@ module _ (network plan : List Line) (r : ℕ) where
         le-suc : e ≤ c → e < suc c
         le-suc u = omega arith
 
-    -- from the end of a run of x to that before the next step that shows q: the phases between, one green each
+    -- from the end of a run of x to that before the next step that shows q: the phases between, one
+    -- green each
     build : (q b₀ c : ℕ) → 1 ≤ q → q ≤ P network r → c < step_count network → phase network plan r (suc c) ≡ q
         → ((n : ℕ) → b₀ < n → n ≤ c → phase network plan r n ≢ q)
         → (m b : ℕ) → b₀ ≤ b → b ≤ c → phase network plan r (suc b) ≢ phase network plan r b → Turns (P network r) q (phase network plan r b) m

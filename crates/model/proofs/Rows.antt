@@ -1,4 +1,5 @@
--- The rows of a ledger that is written row by row, for a program that writes row m through the part of the ledger that starts at it.
+-- The rows of a ledger that is written row by row, for a program that writes row m through the part
+-- of the ledger that starts at it.
 use Rattle.base_laws.proofs.Kit.{◌≡◌, refl, sym, ap, ◌∙◌, ◌⊎◌, inl, inr, List, [], ◌∷◌, ◌++◌, append_assoc, ℕ, zero, suc, ◌+◌, ◌*◌, ◌≤◌, ◌<◌, eq-or-lt_of_le, mul-le-mul_right, arith, length, get_or, take, drop, length-append, length-drop, List·getD-append, take_at, drop-append-add, drop-drop}
 use Rattle.text_reader.specs.Lines.{Line}
 use Rattle.base_laws.specs.Sum.{joined}

@@ -1,4 +1,5 @@
--- The movements of a valid network stand by the links that they leave, and the shares of those from one link sum to 1000.
+-- The movements of a valid network stand by the links that they leave, and the shares of those from
+-- one link sum to 1000.
 use Rattle.base_laws.proofs.Kit.{◌≡◌, sym, ap, ◌∙◌, ◌⊎◌, inl, inr, true, false, cond, List, ℕ, zero, suc, ◌-◌, ◌≤◌, ◌<◌, eq-or-lt_of_le, arith, eqb, ltb, eqb-true, eqb-false, leb-true, ltb-true}
 use Rattle.text_reader.specs.Lines.{Line}
 use Rattle.base_laws.specs.Sum.{sum, only}

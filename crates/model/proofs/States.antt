@@ -1,4 +1,5 @@
--- What the state of a link promises: with what has left, those queued and in transit are what has entered.
+-- What the state of a link promises: with what has left, those queued and in transit are what has
+-- entered.
 use Rattle.base_laws.proofs.Kit.{◌≡◌, refl, List, [], ℕ, ◌+◌, ◌-◌, ◌/◌, ◌≤◌, ◌<◌, mul_comm, div-le_of_le-mul, le-div_iff_mul-le, arith, leb-true}
 use Rattle.base_search.specs.declared.Refusal.{Refusal}
 use Rattle.base_search.specs.Checks.{Hold, verdict, Verdict}

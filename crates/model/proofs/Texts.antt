@@ -14,7 +14,8 @@ pub record Case : Type 0 where
   pub plan : String
   pub prints : String
 
--- the corridor, with its shown seconds, cycle clock, and first link's capacity and travel time left open
+-- the corridor, with its shown seconds, cycle clock, and first link's capacity and travel time left
+-- open
 abbrev pub corridor : String → String → String → String → String
 corridor shown_for clock capacity travel =
     "N\t2\t1\t1\t4\t0\t0\n"

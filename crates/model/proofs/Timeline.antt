@@ -1,4 +1,5 @@
--- The two curves on the timeline: what entered and left a link in the past, in which no plan has a say, and then by the plan.
+-- The two curves on the timeline: what entered and left a link in the past, in which no plan has a
+-- say, and then by the plan.
 use Rattle.base_laws.proofs.Kit.{◌≡◌, sym, ap, ap₂, ◌∙◌, List, ℕ, zero, suc, ◌+◌, ◌-◌, ◌≤◌, ◌<◌, arith, lt-ltb, le-ltb}
 use Rattle.text_reader.specs.Lines.{Line}
 use Rattle.base_laws.specs.Sum.{sum}

@@ -116,7 +116,8 @@ module _ (network : List Line) where
     pub elapsed-early : timeline_time network (on_timeline network n) < travel_time network i → elapsed network n i ≡ 0
     elapsed-early h = omega (arith, elapsed-is)
 
-    -- an arrival from time 0 on is in a step of the plan; one before time 0 is in a step of the past
+    -- an arrival from time 0 on is in a step of the plan; one before time 0 is in a step of the
+    -- past
     pub arrival-in-plan : 1 ≤ travel_time network i → travel_time network i ≤ time network n → past_count network ≤ arrival_step network n i
     arrival-in-plan h l = elim (dec_le (past_count network) (arrival_step network n i)) [
       | yes u ↦ u

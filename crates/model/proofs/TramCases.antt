@@ -91,7 +91,8 @@ tram_groups =
     -- ---- run and clock stand still: phase 1 shows for 30 ordinary seconds in a greatest cycle of 30; would print R 13 4 1 and R 14 4 1
     ∷ record { networks = with_trams "1\t0\nT\t1\t1\t4\t4\n" two ∷ []; plan = idle "1" "1" "1" "1"; prints = idle_report }
     ∷ record { networks = with_trams "1\t0\nT\t1\t2\t2\t2\n" "G\t20\t30\t2\t2\t10\t20\t10\t30\t10\t30\n" ∷ []; plan = idle "1" "2" "1" "1"; prints = idle_report }
-    -- a tram that shows the running phase adds nothing to its least time; would print the report of an idle plan
+    -- a tram that shows the running phase adds nothing to its least time; would print the report of
+    -- an idle plan
     ∷ record { networks = with_trams "1\t0\nT\t1\t1\t1\t1\n" "G\t40\t120\t4\t1\t10\t10\t20\t30\t10\t30\t10\t30\t10\t30\n" ∷ []; plan = idle "1" "2" "2" "2"; prints = "R\t12\t2\t1\n" }
     -- ---- the step before is the last ordinary one: after a tram's phase 3 the signal goes on with 1 or 2, not with 3 or 4
     ∷ record { networks = with_trams "1\t0\nT\t1\t3\t1\t1\n" four ∷ []; plan = idle "4" "1" "1" "2"; prints = idle_report }

@@ -1,4 +1,5 @@
--- The guarantees on reds are not empty: the corridor has one. Signal 1 shows phase 2 before the plan and in step 4, and phase 1 between.
+-- The guarantees on reds are not empty: the corridor has one. Signal 1 shows phase 2 before the
+-- plan and in step 4, and phase 1 between.
 use Rattle.base_laws.proofs.Kit.{◌≡◌, refl, sym, ◌∙◌, true, true≢false, List, ℕ, zero, suc, ◌≤◌, ◌<◌, dec_le, arith}
 use Rattle.text_reader.specs.Lines.{Line, lines}
 use Rattle.model.specs.Network.{signal, step_count}

@@ -58,7 +58,8 @@ module _ (network : List Line) (ledger : List ℕ) (boundary link : ℕ) where
   unfoldable pub ledger_left : ℕ
   ledger_left = slice_index ledger (2 * boundary * link_count network + 2 * (link - 1) + 1)
 
-  -- the step of the timeline in which the travel time ends, its length, and the seconds of it that have elapsed by then
+  -- the step of the timeline in which the travel time ends, its length, and the seconds of it that
+  -- have elapsed by then
   unfoldable pub end_step : ℕ
   end_step = arrival_step network boundary (link - 1)
 
@@ -68,15 +69,16 @@ module _ (network : List Line) (ledger : List ℕ) (boundary link : ℕ) where
   unfoldable pub end_elapsed : ℕ
   end_elapsed = elapsed network boundary (link - 1)
 
-  -- entered at boundary m of the timeline, for what has arrived: before time 0 by the network alone (no plan changes
-  -- it), from then on by the ledger
+  -- entered at boundary m of the timeline, for what has arrived: before time 0 by the network alone
+  -- (no plan changes it), from then on by the ledger
   unfoldable pub arrival_entered : ℕ → ℕ
   arrival_entered m =
       if nat_lt (time network boundary) (travel_time network (link - 1))
       then timeline_entered network [] m (link - 1)
       else ledger_entered (m - past_count network)
 
-  -- arrived × that step's length, so that nothing is rounded; before the timeline has run for the travel time by the `Q` line
+  -- arrived × that step's length, so that nothing is rounded; before the timeline has run for the
+  -- travel time by the `Q` line
   unfoldable pub scaled_arrived : ℕ
   scaled_arrived =
       if nat_lt (timeline_time network (on_timeline network boundary))

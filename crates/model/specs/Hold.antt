@@ -24,7 +24,8 @@ module _ (network : List Line) where
   unfoldable pub hold_text : List ℕ
   hold_text = record_texts letter_p (step_count network) (λ n. hold_numbers)
 
-  -- the lines that a plan text of these lines stands for: a text of no lines has no bytes, and stands for the plan that holds
+  -- the lines that a plan text of these lines stands for: a text of no lines has no bytes, and
+  -- stands for the plan that holds
   unfoldable pub meant : List Line → List Line
   meant [] = hold_lines
   meant (line ∷ more) = line ∷ more
@@ -33,7 +34,8 @@ module _ (network : List Line) where
 abbrev pub plan_of : List ℕ → List ℕ → List Line
 plan_of network_text plan_text = meant (lines network_text) (lines plan_text)
 
--- The theorem of holding, of a plan's check with the ledger before and after it: an empty text gets the answer and the ledger of the plan that holds, written out.
+-- The theorem of holding, of a plan's check with the ledger before and after it: an empty text gets
+-- the answer and the ledger of the plan that holds, written out.
 pub record EmptyHolds (network_text plan_text before after : List ℕ) (answer : Result Totals Refusal) : Type 0 where
   pub answered : length plan_text ≡ 0 → answer ≡ check_plan (lines network_text) (plan_of network_text (hold_text (lines network_text))) (length before)
   pub rows : length plan_text ≡ 0 → after ≡ ledger_after (lines network_text) (plan_of network_text (hold_text (lines network_text))) before

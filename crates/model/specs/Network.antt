@@ -1,6 +1,7 @@
--- What the lines of a network text say. Lines, signals, links, movements and steps are counted from 0 here, phases from 1.
--- The timeline is the past steps (`H` lines) and behind them the plan's (`S` lines), lines whose first number is a length. Step m of the timeline leads from its
--- boundary m to m + 1; step n and boundary n of the plan are its step and boundary `on_timeline n`.
+-- What the lines of a network text say. Lines, signals, links, movements and steps are counted from
+-- 0 here, phases from 1. The timeline is the past steps (`H` lines) and behind them the plan's (`S`
+-- lines), lines whose first number is a length. Step m of the timeline leads from its boundary m to
+-- m + 1; step n and boundary n of the plan are its step and boundary `on_timeline n`.
 use Rattle.std.specs.Prelude.{ℕ, zero, suc, ◌+◌, ◌*◌, ◌-◌, List, [], ◌∷◌, if◌then◌else◌, Bool, nat_le, ◌==◌, slice_index_or, take, drop}
 use Rattle.text_reader.specs.Lines.{Line, no_line, number}
 use Rattle.model.specs.declared.Signal.{Signal}
@@ -65,7 +66,8 @@ module _ (network : List Line) where
   unfoldable pub on_timeline : ℕ → ℕ
   on_timeline n = past_count + n
 
-  -- the places of the `T`, `G`, `Q` and `M` lines, of the timeline's (`H`, then `S`), and of the `S` lines
+  -- the places of the `T`, `G`, `Q` and `M` lines, of the timeline's (`H`, then `S`), and of the
+  -- `S` lines
   unfoldable pub tram_line : ℕ → ℕ
   tram_line k = 1 + k
 
@@ -143,7 +145,8 @@ module _ (network : List Line) where
   unfoldable pub share : ℕ → ℕ
   share j = entry network (movement_line j) 3
 
-  -- step m of the timeline: its length; the volume that entered link i and that left it, if it is a past step, by its `H` line
+  -- step m of the timeline: its length; the volume that entered link i and that left it, if it is a
+  -- past step, by its `H` line
   unfoldable pub timeline_length : ℕ → ℕ
   timeline_length m = entry network (timeline_line m) 0
 
@@ -173,7 +176,8 @@ module _ (network : List Line) where
   step_at zero x = zero
   step_at (suc m) x = if nat_le (timeline_time m) x then m else step_at m x
 
-  -- the step of the timeline in which t(n) minus the travel time of link i lies, and the seconds of it that have elapsed by then; 0 where that is before the timeline
+  -- the step of the timeline in which t(n) minus the travel time of link i lies, and the seconds of
+  -- it that have elapsed by then; 0 where that is before the timeline
   unfoldable pub arrival_step : ℕ → ℕ → ℕ
   arrival_step n i = step_at (on_timeline n) (timeline_time (on_timeline n) - travel_time i)
 

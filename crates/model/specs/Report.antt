@@ -29,6 +29,7 @@ report network_text plan_text =
     let plan : List Line = plan_of network_text plan_text in
     report_text network plan (verdict (network_checks network then plan_line_checks network plan))
 
--- `L`: the network (1) or the plan (2) is longer than the program takes, or not to be opened or read
+-- `L`: the network (1) or the plan (2) is longer than the program takes, or not to be opened or
+-- read
 unfoldable pub not_read : ℕ → List ℕ
 not_read file = record_text 76 (file ∷ [])

@@ -1,4 +1,5 @@
--- The rules, each a test: refusals 2 to 6, 28 and 30 of a network's values, and rules 10 to 18, 25 to 27 and 29 of step n.
+-- The rules, each a test: refusals 2 to 6, 28 and 30 of a network's values, and rules 10 to 18, 25
+-- to 27 and 29 of step n.
 use Rattle.std.specs.Prelude.{ℕ, zero, suc, ◌+◌, ◌*◌, ◌-◌, ◌^◌, Bool, true, not, if◌then◌else◌, List, [], nat_le, nat_lt, ◌==◌, slice_index, slice_index_or}
 use Rattle.text_reader.specs.Lines.{Line, no_line, number}
 use Rattle.model.specs.declared.Signal.{Signal}
@@ -51,7 +52,8 @@ module _ (network : List Line) where
   abbrev pub tram : ℕ → Line
   tram k = slice_index_or network (tram_line network k) no_line
 
-  -- 28, `T` line k: its signal and steps exist, and no earlier line is for its signal in one of them
+  -- 28, `T` line k: its signal and steps exist, and no earlier line is for its signal in one of
+  -- them
   unfoldable pub valid_tram : ℕ → Bool
   valid_tram k = tram_exists (signal_count network) (step_count network) (tram k) and every k (λ j. apart (tram j) (tram k))
 
@@ -105,7 +107,8 @@ module _ (network : List Line) where
       or sum (movement_count network) (λ j. only (from_link network j == suc i) (share network j))
       == 1000
 
-  -- 6, step n: its length is 1 to 60 and at most every phase's greatest time, each demand is at most 600,000
+  -- 6, step n: its length is 1 to 60 and at most every phase's greatest time, each demand is at
+  -- most 600,000
   unfoldable pub valid_step : ℕ → Bool
   valid_step n =
       within 1 (step_length network n) 60
@@ -114,9 +117,9 @@ module _ (network : List Line) where
       (λ k. nat_le (step_length network n) (slice_index (signal network r).greatest k)))
       and every (link_count network) (λ i. nat_le (demand network n i) 600_000)
 
-  -- 30, link i when the past ends, which no plan changes: at most what has arrived has left it, and it holds at most
-  -- its capacity; and past entries, waiting volume and demands are at most 72,000,000 (120 × 600,000) + 13,800,000 (23
-  -- × 10,000 × 60) × `H` lines
+  -- 30, link i when the past ends, which no plan changes: at most what has arrived has left it, and
+  -- it holds at most its capacity; and past entries, waiting volume and demands are at most
+  -- 72,000,000 (120 × 600,000) + 13,800,000 (23 × 10,000 × 60) × `H` lines
   unfoldable pub valid_past_of : ℕ → Bool
   valid_past_of i =
       has_arrived network [] (left network [] 0 i) 0 i
@@ -124,7 +127,8 @@ module _ (network : List Line) where
       and nat_le (sum (past_count network) (λ m. past_entries network m i) + offered network
       (step_count network) i) (72_000_000 + 13_800_000 * past_count network)
 
-  -- 30: the length of a past step is 1 to 60, past and present steps are at most 120 together, and each link's past is good
+  -- 30: the length of a past step is 1 to 60, past and present steps are at most 120 together, and
+  -- each link's past is good
   unfoldable pub valid_past : Bool
   valid_past =
       every (past_count network) (λ m. within 1 (timeline_length network m) 60)
@@ -140,7 +144,8 @@ module _ (network plan : List Line) (n : ℕ) where
   unfoldable pub rule29 : ℕ → Bool
   rule29 r = ordinary network n r or shown_in network plan n r == tram_phase (trams network) r n
 
-  -- 11 to 14 of signal r, in ordinary steps: as `Signals` has them, for the signal at the step's start
+  -- 11 to 14 of signal r, in ordinary steps: as `Signals` has them, for the signal at the step's
+  -- start
   unfoldable pub rule11 : ℕ → Bool
   rule11 r = not (ordinary network n r) or keeps_order (signal_at network plan n r) (shown_in network plan n r)
 
@@ -169,7 +174,8 @@ module _ (network plan : List Line) (n : ℕ) where
   unfoldable pub rule27 : ℕ → Bool
   rule27 j = is_open network plan n (from_link network j - 1) or moved network plan n j == 0
 
-  -- 16, movement j: 1000 × the movement is at most its share × the sum of all movements from its link
+  -- 16, movement j: 1000 × the movement is at most its share × the sum of all movements from its
+  -- link
   unfoldable pub rule16 : ℕ → Bool
   rule16 j =
       nat_le (1000 * moved network plan n j)

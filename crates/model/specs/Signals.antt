@@ -2,7 +2,8 @@
 use Rattle.std.specs.Prelude.{ℕ, zero, suc, ◌+◌, ◌-◌, ◌/◌, ◌%◌, ◌^◌, ◌≤◌, ◌<◌, ◌≡◌, ◌≢◌, Bool, if◌then◌else◌, not, ◌&&◌, ◌||◌, nat_le, ◌==◌, slice_index, List, [], ◌∷◌}
 use Rattle.model.specs.declared.Signal.{Signal}
 
--- the phase among 1 to P whose bit is all of the mask: phase k has the bit of 2 ^ (k - 1); 0 where there is none
+-- the phase among 1 to P whose bit is all of the mask: phase k has the bit of 2 ^ (k - 1); 0 where
+-- there is none
 unfoldable pub phase_of : ℕ → ℕ → ℕ
 phase_of mask zero = zero
 phase_of mask (suc k) = if mask == 2 ^ k then suc k else phase_of mask k
@@ -31,7 +32,8 @@ unfoldable pub nth_next : ℕ → ℕ → ℕ → ℕ
 nth_next P zero k = k
 nth_next P (suc d) k = phase_after P (nth_next P d k)
 
--- What the order of the phases keeps, for every number of phases: from any phase the P-th next is that phase again, and no earlier one is.
+-- What the order of the phases keeps, for every number of phases: from any phase the P-th next is
+-- that phase again, and no earlier one is.
 pub record PhaseOrder : Type 0 where
   pub comes-again : (P k : ℕ) → 1 ≤ k → k ≤ P → nth_next P P k ≡ k
   pub no-earlier : (P k d : ℕ) → 1 ≤ k → k ≤ P → 0 < d → d < P → nth_next P d k ≢ k
@@ -40,7 +42,8 @@ pub record PhaseOrder : Type 0 where
 abbrev pub begins_cycle : Signal → ℕ → Bool
 begins_cycle s q = q == 1 && not (s.shown == 1)
 
--- the seconds of the run, which is how long a phase has shown, after a step of so many seconds that shows q
+-- the seconds of the run, which is how long a phase has shown, after a step of so many seconds that
+-- shows q
 abbrev pub shown_for_after : Signal → ℕ → ℕ → ℕ
 shown_for_after s q seconds = if q == s.shown then s.shown_for + seconds else seconds
 
@@ -64,7 +67,8 @@ keeps_least_time s q = q == s.shown || nat_le (least_time s s.shown) s.shown_for
 abbrev pub keeps_greatest_time : Signal → ℕ → ℕ → Bool
 keeps_greatest_time s q seconds = nat_le (shown_for_after s q seconds) (greatest_time s q)
 
--- 14: when phase 1 begins again, the clock is at least the least cycle; after each step it is at most the greatest cycle
+-- 14: when phase 1 begins again, the clock is at least the least cycle; after each step it is at
+-- most the greatest cycle
 abbrev pub keeps_cycle : Signal → ℕ → ℕ → Bool
 keeps_cycle s q seconds =
     (not (begins_cycle s q) || nat_le s.least_cycle s.cycle_clock)

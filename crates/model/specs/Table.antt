@@ -49,7 +49,8 @@ module _ (network : List Line) where
   unfoldable pub tram_checks : ℕ → Checks
   tram_checks k = record_checks network (tram_line network k) letter_t 4 28 0 (valid_tram network k)
 
-  -- `G` line r: a line whose first seven fields are good gets 3 for a bad P before 1 for anything later in it
+  -- `G` line r: a line whose first seven fields are good gets 3 for a bad P before 1 for anything
+  -- later in it
   unfoldable pub signal_checks : ℕ → Checks
   signal_checks r =
       check 1 (suc (signal_line network r)) 0
@@ -70,7 +71,8 @@ module _ (network : List Line) where
   unfoldable pub movement_checks : ℕ → Checks
   movement_checks j = record_checks network (movement_line network j) letter_m 4 5 (suc j) (valid_movement network j)
 
-  -- the shares of link i, reported at its last movement, whose line from 1 is `movement_line` of its number from 1
+  -- the shares of link i, reported at its last movement, whose line from 1 is `movement_line` of
+  -- its number from 1
   unfoldable pub share_checks : ℕ → Checks
   share_checks i =
       check 5 (movement_line network (last_movement network (movement_count network) i)) (last_movement network (movement_count network) i) (valid_shares network i)
@@ -104,8 +106,9 @@ module _ (network : List Line) where
   ledger_checks size = check 8 0 0 (nat_le (2 * suc (step_count network) * link_count network) size)
 
 module _ (network plan : List Line) where
-  -- the rules at step n, in their order: 10, 29 and 11 to 14 of the signals; 15 and 25 to 27, the limits of the volumes: admitted, let out, and the movements' two;
-  -- and 16 to 18, by sums of volumes
+  -- the rules at step n, in their order: 10, 29 and 11 to 14 of the signals; 15 and 25 to 27, the
+  -- limits of the volumes: admitted, let out, and the movements' two; and 16 to 18, by sums of
+  -- volumes
   unfoldable pub step_rules : ℕ → List Rule
   step_rules n =
       record { number = 10; items = signal_count network; holds = rule10 network plan n }

@@ -18,7 +18,8 @@ use Rattle.model_carry.proofs.Hold.{held_first, held-rest}
 use Rattle.std.specs.Prelude.{Ok}
 
 module _ (network : List Line) where
-  -- a plan that is carried on: the network is valid, the boundary is inside, and each line is accepted on the cut network
+  -- a plan that is carried on: the network is valid, the boundary is inside, and each line is
+  -- accepted on the cut network
   record Carried (plan : List Line) (b : ℕ) : Type 0 where
     holds : Hold (network_checks network)
     first : 1 ≤ b

@@ -10,7 +10,8 @@ use Rattle.model_carry.specs.Call.{planned_on, carry_checks, carry_ledger, carry
 use Rattle.model_carry.proofs.Opened.{opened}
 use Rattle.std.specs.Prelude.{Ok, Err}
 
--- a network text, a plan text, a boundary, the lengths of a ledger and of a buffer of sevens, and the buffer after it; or what is told of a refusal, which leaves it
+-- a network text, a plan text, a boundary, the lengths of a ledger and of a buffer of sevens, and
+-- the buffer after it; or what is told of a refusal, which leaves it
 pub record CarryCase : Type 0 where
   pub network : String
   pub plan : String
@@ -57,7 +58,8 @@ cases =
     ∷ record { network = the_network; plan = two; boundary = 2; ledger = 12; room = 155; text = "R\t32\t0\t0\n" }
     -- numbers are written without leading zeros
     ∷ record { network = corridor "0000000010" "020" "0060000" "00010"; plan = "P\t01\t05000\t0\t0\t0\t0\nP\t1\t0\t0\t0\t0\t0000003000\n"; boundary = 2; ledger = 12; room = 156; text = later }
-    -- tram lines: one across the boundary is clipped and renumbered, one that is past is dropped; the run and the clock stand still in both
+    -- tram lines: one across the boundary is clipped and renumbered, one that is past is dropped;
+    -- the run and the clock stand still in both
     ∷ record {
       network = with_trams "3\t0\nT\t1\t1\t2\t3\nT\t1\t2\t4\t4\nT\t1\t1\t1\t1\n";
       plan = two;

@@ -1,4 +1,5 @@
--- The cut network by the whole: for a program that judges the plan of b lines by the tables of the whole network.
+-- The cut network by the whole: for a program that judges the plan of b lines by the tables of the
+-- whole network.
 use Rattle.base_laws.proofs.Kit.{◌≡◌, refl, sym, ap, ap₂, ◌∙◌, List, ◌++◌, ℕ, zero, suc, ◌*◌, ◌≤◌, ◌<◌, arith, leb, eqb, length, get_or, drop, leb-true, le-leb}
 use Rattle.base_search.specs.Checks.{Hold, each, or_else, checked, verdict}
 use Rattle.base_search.proofs.Laws.{or-else-passes, first-same, hold-of-passes, passes-of-hold}
@@ -15,7 +16,8 @@ use Rattle.model_carry.proofs.Theorem.{cut_holds, cut-links, cut-steps, cut_line
 -- a plan whose first b lines are those of another
 module _ (network : List Line) (b : ℕ) (holds : Hold (network_checks network)) (o : 1 ≤ b) (u : b < step_count network) (whole first : List Line)
     (same : (n : ℕ) → n < b → get_or first n no_line ≡ get_or whole n no_line) where
-  -- 8 by the numbers of b steps, then the first b lines on the whole network, then 9 for a line after them
+  -- 8 by the numbers of b steps, then the first b lines on the whole network, then 9 for a line
+  -- after them
   pub cut-judged : (size : ℕ)
       → verdict (plan_checks (cut network b) first size)
       ≡ or_else (checked (leb (2 * suc b * link_count network) size) 8 0 0) (or_else (verdict (each b (line_checks network whole))) (checked (eqb (length first) b) 9 (suc b) 0))

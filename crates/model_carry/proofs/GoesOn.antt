@@ -1,4 +1,5 @@
--- A network and a plan that go on from boundary a of another: every curve, signal, rule, row and time is that of the other, a steps later.
+-- A network and a plan that go on from boundary a of another: every curve, signal, rule, row and
+-- time is that of the other, a steps later.
 use Rattle.base_laws.proofs.Kit.{◌≡◌, refl, ap, ap₂, ◌∙◌, Bool, cond, List, ℕ, zero, suc, ◌+◌, ◌*◌, ◌-◌, ◌≤◌, ◌<◌, dec_le, arith, leb, ltb, eqb, lt-ltb, le-ltb}
 use Rattle.text_reader.specs.Lines.{Line}
 use Rattle.model.specs.declared.Signal.{Signal}
@@ -32,7 +33,8 @@ pub record SameMovement (network other : List Line) (j : ℕ) : Type 0 where
   pub same-rate : rate other j ≡ rate network j
   pub same-share : share other j ≡ share network j
 
--- `other` and `rest` are what is left of `network` and `plan` at boundary a, up to some later boundary
+-- `other` and `rest` are what is left of `network` and `plan` at boundary a, up to some later
+-- boundary
 pub record GoesOn (network plan other rest : List Line) (a : ℕ) : Type 0 where
   pub links : link_count other ≡ link_count network
   pub signals : signal_count other ≡ signal_count network

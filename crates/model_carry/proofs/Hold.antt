@@ -1,4 +1,5 @@
--- An empty plan means hold: the lines that it stands for on the whole network are those on the cut network and those on the carried one.
+-- An empty plan means hold: the lines that it stands for on the whole network are those on the cut
+-- network and those on the carried one.
 use Rattle.base_laws.proofs.Kit.{◌≡◌, sym, ap, ap₂, ◌∙◌, List, [], ◌∷◌, ◌++◌, append_assoc, append-nil, ℕ, zero, suc, ◌+◌, ◌*◌, ◌-◌, ◌≤◌, ◌<◌, dec_lt, arith, le-ltb, take, drop, get_or-take, take_at, drop_at}
 use Rattle.base_search.specs.Checks.{verdict, Hold}
 use Rattle.text_reader.specs.Lines.{Line, no_line, number}

@@ -1,4 +1,5 @@
--- A line of the plan is judged on what is left of a network as it is on the whole, and reported so many lines later.
+-- A line of the plan is judged on what is left of a network as it is on the whole, and reported so
+-- many lines later.
 use Rattle.base_laws.proofs.Kit.{◌≡◌, sym, ap₂, ◌∙◌, List, ℕ, suc, ◌+◌, ◌*◌, ◌<◌, arith, length, get_or}
 use Rattle.base_search.specs.Checks.{Rule, rule_at, or_else, verdict, table}
 use Rattle.base_search.proofs.Table.{same-table}

@@ -1,4 +1,5 @@
--- A part of a valid network, after steps that keep every rule, is valid: none of 1 to 6, 28 and 30 arises of it.
+-- A part of a valid network, after steps that keep every rule, is valid: none of 1 to 6, 28 and 30
+-- arises of it.
 use Rattle.base_laws.proofs.Kit.{◌≡◌, refl, sym, ap, ap₂, ◌∙◌, true, cond, List, [], ℕ, zero, suc, ◌+◌, ◌*◌, ◌-◌, ◌^◌, ◌≤◌, ◌<◌, arith, leb, ltb, eqb, length, get_or, drop, get_or-drop, leb-true, le-leb}
 use Rattle.base_search.specs.Checks.{Hold}
 use Rattle.text_reader.specs.Lines.{Line, no_line, number, number_of, is_record}
@@ -240,7 +241,8 @@ module _ (network plan : List Line) (a c : ℕ) (holds : Hold (network_checks ne
         rw (start-held P [] rest i, held_same network plan P rest a g valid i l 0 (omega arith), (g.link i l).same-capacity, start)
         (le-leb (held network plan a i) (capacity network i) (unfold held in held-capacity network plan valid a i l (λ m w. (keeps m w).keeps18 i l)))
 
-    -- what enters in the steps that are run has come to the entry, or is moved by at most 23 movements
+    -- what enters in the steps that are run has come to the entry, or is moved by at most 23
+    -- movements
     entries : sum (past_count P) (λ m. past_entries P m i) + standing network i ≡ entered network plan a i
     unfolding entered timeline_entered on_timeline
     entries =

@@ -1,4 +1,5 @@
--- What the call promises beside the theorem: what it wrote, and that the number of a refusal is one that can arise.
+-- What the call promises beside the theorem: what it wrote, and that the number of a refusal is one
+-- that can arise.
 use Rattle.base_laws.proofs.Kit.{◌≡◌, refl, sym, ap, ◌∙◌, cond, List, ℕ, ◌-◌, arith, length, take}
 use Rattle.base_search.specs.declared.Refusal.{Refusal}
 use Rattle.base_search.specs.Checks.{verdict, Hold, Verdict}
@@ -37,7 +38,8 @@ module _ (network plan : List Line) (b : ℕ) where
       let w = within-parts 1 b (step_count network - 1) inside in
       rw (cut-steps network b holds w.0 (omega (arith, w.0, w.1))) at (guarantees (cut network b) plan (accepted-plan (cut network b) plan size judged))
 
-  -- the ledger is that of its check there, where the boundary passes, and untouched where it doesn't
+  -- the ledger is that of its check there, where the boundary passes, and untouched where it
+  -- doesn't
   module _ (old : List ℕ) where
     ledger-written : Hold (boundary_checks network b) → carry_ledger network plan b old ≡ ledger_after (cut network b) plan old
     unfolding carry_ledger

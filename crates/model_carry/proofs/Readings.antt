@@ -1,4 +1,5 @@
--- Where the theorem of carrying on would fail under another reading, by computation on the definitions.
+-- Where the theorem of carrying on would fail under another reading, by computation on the
+-- definitions.
 use Rattle.base_laws.proofs.Kit.{◌≡◌, refl, List, take, drop}
 use Prim.Native.String.{String, ◌++◌}
 use Rattle.base_search.specs.Checks.{refusal, verdict, Verdict}
@@ -18,8 +19,9 @@ read text = lines (bytes text)
 abbrev judged : List Line → List Line → Verdict
 judged network plan = verdict (plan_checks network (meant network plan) 100)
 
--- The network is judged whole before it is cut. This one is refused by 30, since 71,400,000 that wait and demands of 1,200,000 exceed 72,000,000; but cut to one step it
--- passes, and so does what is carried on, whose limit has grown by 13,800,000 for a past step that brought nothing.
+-- The network is judged whole before it is cut. This one is refused by 30, since 71,400,000 that
+-- wait and demands of 1,200,000 exceed 72,000,000; but cut to one step it passes, and so does what
+-- is carried on, whose limit has grown by 13,800,000 for a past step that brought nothing.
 abbrev crowded : List Line
 crowded = read "N\t1\t0\t0\t2\t0\t0\nQ\t100\t10\t0\t0\t0\t0\t71400000\nS\t10\t600000\nS\t10\t600000\n"
 
@@ -46,7 +48,8 @@ pub judged-whole-trams : (judged backwards still ≡ Err (refusal 28 2 0))
 unfolding opened
 judged-whole-trams = (refl, refl, refl)
 
--- The plan has K lines. One of just b lines is refused whole, but nothing is left of it, and an empty plan means hold.
+-- The plan has K lines. One of just b lines is refused whole, but nothing is left of it, and an
+-- empty plan means hold.
 abbrev quiet : List Line
 quiet = read "N\t1\t0\t0\t2\t0\t0\nQ\t100\t10\t0\t0\t0\t0\t0\nS\t10\t0\nS\t10\t0\n"
 
@@ -56,7 +59,8 @@ pub all_lines : (judged quiet (take 1 idle) ≡ Err (refusal 9 2 0))
 unfolding opened
 all_lines = (refl, refl, refl)
 
--- The carried `G` line shows the last ordinary phase. With the tram's, which shows at the boundary, the rest of an accepted plan would be refused.
+-- The carried `G` line shows the last ordinary phase. With the tram's, which shows at the boundary,
+-- the rest of an accepted plan would be refused.
 abbrev tramway : List Line
 tramway = read "N\t1\t1\t0\t2\t1\t0\nT\t1\t3\t1\t1\nG\t20\t60\t4\t1\t0\t0\t10\t60\t10\t60\t10\t60\t10\t60\nQ\t100\t10\t0\t0\t0\t0\t0\nS\t10\t0\nS\t10\t0\n"
 

@@ -12,7 +12,8 @@ use Rattle.base_laws.proofs.Tests.{and_left, and_right, or_cases, and_both, is_w
 use Rattle.model.proofs.Accepted.{ValidNetwork, LawfulStep}
 use Rattle.model.proofs.Shown.{kept, same-phases}
 
--- what a signal shows: refusal 3, but for the limits of its phases and its cycle, which no step changes
+-- what a signal shows: refusal 3, but for the limits of its phases and its cycle, which no step
+-- changes
 pub record Shows (s : Signal) : Type 0 where
   pub first : 1 ≤ s.shown
   pub last : s.shown ≤ s.phases

@@ -26,7 +26,8 @@ unfolding or_else
 or_else_none (Ok tt) = refl
 or_else_none (Err r) = refl
 
--- a plan of as many lines as the network has steps, with a ledger that is long enough, is judged line by line
+-- a plan of as many lines as the network has steps, with a ledger that is long enough, is judged
+-- line by line
 lines-judged : (network plan : List Line) (size : ℕ) → Hold (network_checks network) → 2 * suc (step_count network) * link_count network ≤ size → length plan ≡ step_count network
     → verdict (plan_checks network plan size) ≡ first_from (λ n. verdict (line_checks network plan n)) (step_count network) 0
 unfolding verdict plan_checks ledger_checks plan_line_checks

@@ -1,4 +1,5 @@
--- Tram lines clipped to the steps a + 1 to c: in those steps they ask what all lines ask, and refusal 28 does not arise of them.
+-- Tram lines clipped to the steps a + 1 to c: in those steps they ask what all lines ask, and
+-- refusal 28 does not arise of them.
 use Rattle.base_laws.proofs.Kit.{◌≡◌, refl, sym, ap, ◌∙◌, Bool, true, false, cond, List, [], ◌∷◌, map, ℕ, suc, ◌+◌, ◌-◌, ◌≤◌, ◌<◌, min, max, dec_le, arith, eqb, le-leb, lt-leb, leb-true, leb-false}
 use Rattle.text_reader.specs.Lines.{Line, number, number_of}
 use Rattle.text_writer.specs.Records.{record_line}

@@ -1,5 +1,5 @@
--- The call that carries on from boundary b: when it refuses, and what it writes. The plan is the list of the lines that
--- its text stands for on the cut network (`planned_on`).
+-- The call that carries on from boundary b: when it refuses, and what it writes. The plan is the
+-- list of the lines that its text stands for on the cut network (`planned_on`).
 use Rattle.std.specs.Prelude.{ℕ, ◌-◌, if◌then◌else◌, List, [], ◌∷◌, ◌++◌, nat_le, length, Result}
 use Rattle.base_search.specs.Checks.{Checks, check, ◌then◌, verdict}
 use Rattle.text_reader.specs.Lines.{Line, lines}
@@ -26,7 +26,8 @@ abbrev pub carry_numbers : List ℕ
 carry_numbers = plan_numbers ++ (31 ∷ 32 ∷ [])
 
 module _ (network plan : List Line) (b : ℕ) where
-  -- then the plan, checked on the network cut to b steps, with 8 and the rows of that; last 32, an output buffer that is too short
+  -- then the plan, checked on the network cut to b steps, with 8 and the rows of that; last 32, an
+  -- output buffer that is too short
   unfoldable pub carry_checks : ℕ → ℕ → Checks
   carry_checks ledger_size room =
       boundary_checks network b

@@ -29,7 +29,8 @@ Carries network plan b size room = verdict (carry_checks network plan b size roo
 abbrev pub next : List Line → List Line → ℕ → List Line
 next network plan b = lines (carried_text network plan b)
 
--- a plan of K lines and a boundary from 1 to K - 1, with a ledger that is long enough for the whole and a buffer that is for the text
+-- a plan of K lines and a boundary from 1 to K - 1, with a ledger that is long enough for the whole
+-- and a buffer that is for the text
 pub record Parted (network plan : List Line) (b size room : ℕ) : Type 0 where
   pub whole : length plan ≡ step_count network
   pub first : 1 ≤ b
@@ -38,7 +39,8 @@ pub record Parted (network plan : List Line) (b size room : ℕ) : Type 0 where
   pub text-room : length (carried_text network (take b plan) b) ≤ room
 
 pub record CarriesOn (network : List Line) : Type 0 where
-  -- a plan of K lines is accepted exactly when its first b lines are, on the cut network, and the rest is, on the carried one
+  -- a plan of K lines is accepted exactly when its first b lines are, on the cut network, and the
+  -- rest is, on the carried one
   pub exactly : (plan : List Line) (b size room : ℕ) → Parted network plan b size room
       → Accepts network plan size ↔ (Carries network (take b plan) b size room × Accepts (next network (take b plan) b) (drop b plan) size)
   -- later ledger rows are then equal ..
@@ -54,7 +56,8 @@ pub record CarriesOn (network : List Line) : Type 0 where
       ≡ or_else (verdict (carry_checks network (take b plan) b size room)) (later b (verdict (plan_checks (next network (take b plan) b) (drop b plan) size)))
   -- a network that is carried on is valid
   pub valid : (plan : List Line) (b size room : ℕ) → Carries network plan b size room → verdict (network_checks (next network plan b)) ≡ Ok tt
-  -- an empty plan text, which means hold, is accepted exactly when it is on the cut network and on the carried one
+  -- an empty plan text, which means hold, is accepted exactly when it is on the cut network and on
+  -- the carried one
   pub held : (b size room : ℕ) → Parted network (meant network []) b size room
       → Accepts network (meant network []) size
       ↔ (Carries network (meant (cut network b) []) b size room × Accepts (next network (meant (cut network b) []) b) (meant (next network (meant (cut network b) []) b) []) size)
@@ -62,9 +65,11 @@ pub record CarriesOn (network : List Line) : Type 0 where
   pub twice : (plan more : List Line) (b c size room : ℕ) → Carries network plan b size room → c < step_count network - b
       → carried_text (next network plan b) more c ≡ carried_text network (plan ++ more) (b + c)
 
--- What the call promises of a plan, the ledger and the buffer before and after it, and its answer: all are those of the definitions; a text that was written is a valid
--- network, and a refusal leaves the buffer as it was; a plan that is carried on has every guarantee of an accepted plan, on the cut network, and the ledger is that of its
--- check there; the theorem; and a refusal's number is one that can arise.
+-- What the call promises of a plan, the ledger and the buffer before and after it, and its answer:
+-- all are those of the definitions; a text that was written is a valid network, and a refusal
+-- leaves the buffer as it was; a plan that is carried on has every guarantee of an accepted plan,
+-- on the cut network, and the ledger is that of its check there; the theorem; and a refusal's
+-- number is one that can arise.
 pub record CarriedOn (network plan : List Line) (b : ℕ) (ledger ledger_after buffer buffer_after : List ℕ) (answer : Result ℕ Refusal) : Type 0 where
   pub told : answer ≡ carry_on network plan b (length ledger) (length buffer)
   pub rows : ledger_after ≡ carry_ledger network plan b ledger

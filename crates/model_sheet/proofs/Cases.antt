@@ -33,7 +33,8 @@ abbrev before : String
 before =
     "P\t1\t1\t0\t0\nP\t1\t1\t0\t0\nP\t2\t2\t0\t0\nP\t2\t2\t0\t0\nP\t1\t1\t0\t0\nP\t1\t1\t0\t0\nP\t2\t2\t0\t0\nP\t2\t2\t0\t0\nP\t1\t1\t0\t0\n"
 
--- signal 1 shows phase 1 for 10 s from 80, seen where step 10 leaves it; the run of signal 2 that ends with step 8 is seen where step 12 leaves it
+-- signal 1 shows phase 1 for 10 s from 80, seen where step 10 leaves it; the run of signal 2 that
+-- ends with step 8 is seen where step 12 leaves it
 abbrev short : List Line
 short = read (before ++ "P\t2\t1\t0\t0\nP\t2\t1\t0\t0\nP\t2\t1\t0\t0\nP\t1\t1\t0\t0\nP\t1\t2\t0\t0\n")
 
@@ -43,8 +44,8 @@ even = read (before ++ "P\t1\t1\t0\t0\nP\t2\t1\t0\t0\nP\t2\t1\t0\t0\nP\t1\t1\t0\
 abbrev judged : List Line → List Line → String → Verdict
 judged network plan sheet = verdict (keep_checks network (read sheet) plan 60)
 
--- kept; 34 reported before the run that is seen first, by the lower of two signals; 33 by a limit and for a surplus
--- line; 8 after 33, 9 after 8
+-- kept; 34 reported before the run that is seen first, by the lower of two signals; 33 by a limit
+-- and for a surplus line; 8 after 33, 9 after 8
 the-cases : (judged two even "F\t20\t20\nF\t20\t20\n"
     ∷ judged two short "F\t20\t20\nF\t20\t30\n"
     ∷ judged two short "F\t20\t20\nF\t20\t20\n"
@@ -66,7 +67,8 @@ in-one-pass : (pass_verdict (found two (read "F\t20\t20\nF\t20\t30\n") short 14)
 unfolding opened
 in-one-pass = refl
 
--- trams claim the signal in the steps 1 to 7; the phase shown before goes on at 70, above the greatest cycle, for 10 s, which is no run that begins in the plan
+-- trams claim the signal in the steps 1 to 7; the phase shown before goes on at 70, above the
+-- greatest cycle, for 10 s, which is no run that begins in the plan
 abbrev held : List Line
 held = read ("N\t1\t1\t0\t14\t1\t0\nT\t1\t2\t1\t7\n" ++ g ++ rest)
 
@@ -95,7 +97,8 @@ at-the-cycle : (judged quick turns "F\t10\t10\n" ∷ judged quick turns "F\t20\t
 unfolding opened
 at-the-cycle = refl
 
--- behind a past step of 10 s nothing is counted from its start: the run that starts 10 s after time 0 is exempt, and the cycle begins at time 0
+-- behind a past step of 10 s nothing is counted from its start: the run that starts 10 s after time
+-- 0 is exempt, and the cycle begins at time 0
 abbrev behind : List Line
 behind = read ("N\t1\t1\t0\t6\t0\t1\n" ++ first ++ "H\t10\t0\t0\n" ++ six)
 
@@ -124,7 +127,8 @@ claimed = steps "N\t1\t2\t0\t8\t1\t0\nT\t2\t1\t2\t2\n"
 abbrev good : String
 good = "F\t20\t10\t5\nF\t10\t20\t10\t20\n"
 
--- written; 35 by an end off the boundaries, 33 for an offset at the sum, 35 for tram lines, of the lower signal first; room for just the text; 24
+-- written; 35 by an end off the boundaries, 33 for an offset at the sum, 35 for tram lines, of the
+-- lower signal first; room for just the text; 24
 writes : (verdict (write_checks free (read good) 200)
     ∷ verdict (write_checks free (read "F\t20\t10\t5\nF\t10\t20\t10\t21\n") 200)
     ∷ verdict (write_checks free (read "F\t20\t10\t5\nF\t10\t20\t10\t40\n") 200)

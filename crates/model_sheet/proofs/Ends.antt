@@ -72,7 +72,8 @@ module _ (network sheet : List Line) (r : ℕ) (many : 2 ≤ phases_of network r
                 | no y ↦ omega (arith, time-mono network (suc n) x.0 (omega arith), x.2, time-suc network n)
               ]
 
-  -- every step lies inside a run of the cycle exactly when every run that ends before the horizon ends on a boundary
+  -- every step lies inside a run of the cycle exactly when every run that ends before the horizon
+  -- ends on a boundary
   pub fits-exactly : (every (step_count network) (λ n. fits network sheet n r) ≡ true) ↔ EndsOnBoundaries network sheet r
   fits-exactly =
       (λ h. on-boundaries (every-at (step_count network) (λ n. fits network sheet n r) h), λ ends. every_of (step_count network) _ (fits-steps ends))

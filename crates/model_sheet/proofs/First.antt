@@ -1,4 +1,5 @@
--- A refusal 34 names the first broken run: the least line of its last ordinary step, then the lowest signal.
+-- A refusal 34 names the first broken run: the least line of its last ordinary step, then the
+-- lowest signal.
 use Rattle.base_laws.proofs.Kit.{◌≡◌, refl, sym, ap, ◌∙◌, true, false, not, ◌⊎◌, inl, inr, List, ℕ, suc, ◌-◌, ◌≤◌, ◌<◌, dec_le, ℕ_discrete, arith, eqb, eqb-true, eqb-false, not-false}
 use Rattle.base_search.specs.declared.Refusal.{Refusal}
 use Rattle.base_search.specs.Checks.{Hold, FirstBroken}

@@ -151,7 +151,8 @@ module _ (network sheet : List Line) (r : ℕ) (l : r < signal_count network) (w
       let g = gone (a + d) p (omega arith) (f d (omega arith)) (ap (λ n. sheet_phase network sheet n r) (sym e) ∙ f (suc d) (omega arith)) in
       rw e (omega (arith, time-suc network (a + d)))
 
-  -- the steps from a on, d and one more, show phase p + 1; neither the step before nor the one after does
+  -- the steps from a on, d and one more, show phase p + 1; neither the step before nor the one
+  -- after does
   whole : (a p d o : ℕ) → suc (a + suc d) < step_count network → sheet_phase network sheet a r ≡ suc o → o ≢ p → ((k : ℕ) → k ≤ d → sheet_phase network sheet (suc a + k) r ≡ suc p)
       → sheet_phase network sheet (suc a + suc d) r ≢ suc p → time network (suc a + suc d) ≡ time network (suc a) + entry sheet r p
   whole a p d o h f n g x =

@@ -1,4 +1,5 @@
--- One pass over the steps, a first broken run for each signal and the least of them, gives the verdict of the checks.
+-- One pass over the steps, a first broken run for each signal and the least of them, gives the
+-- verdict of the checks.
 use Rattle.base_laws.proofs.Kit.{◌≡◌, refl, sym, ap, ◌∙◌, Bool, true, false, cond, not, true≢false, ◌⊎◌, inl, inr, ◌≢◌, List, ℕ, zero, suc, ◌≤◌, ◌<◌, eq-or-lt_of_le, dec_le, ℕ_discrete, arith, ltb, eqb, eqb-true, eqb-false, eq-eqb, ne_eqb, ltb-true, not-true, lt-ltb}
 use Rattle.base_search.specs.Checks.{refusal, checked, first_from, verdict, Verdict}
 use Rattle.base_search.proofs.Laws.{first-stop, first_passes, checked-passes, checked_refused}

@@ -48,7 +48,8 @@ module _ (network sheet plan : List Line) where
     ten : Hold (accept_checks network sheet plan size) → (n r : ℕ) → n < step_count network → r < signal_count network → rule10 network plan n r ≡ true
     ten h n r u l = ((accepted-plan network plan size (accept-parts h).0).lawful n u).keeps10 r l
 
-    -- every check holds exactly when the plan is accepted, the sheet has its form and limits, and it is kept
+    -- every check holds exactly when the plan is accepted, the sheet has its form and limits, and
+    -- it is kept
     keeps : Hold (keep_checks network sheet plan size) ↔ (Hold (plan_checks network plan size) × Hold (sheet_checks network sheet 0) × Kept network sheet plan)
     unfolding Hold keep_checks
     keeps = (

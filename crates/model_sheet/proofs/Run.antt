@@ -1,5 +1,5 @@
--- A green that begins in the plan and is left in it, by the phases of the signal at each boundary in place of masks, and with the step that leaves it. Assumes
--- nothing.
+-- A green that begins in the plan and is left in it, by the phases of the signal at each boundary
+-- in place of masks, and with the step that leaves it. Assumes nothing.
 use Rattle.base_laws.proofs.Kit.{◌≡◌, refl, sym, ap, ◌∙◌, true, true≢false, ◌≢◌, List, ℕ, suc, ◌≤◌, ◌<◌, dec_le, arith, leb-true}
 use Rattle.text_reader.specs.Lines.{Line}
 use Rattle.model.specs.declared.Signal.{Signal}

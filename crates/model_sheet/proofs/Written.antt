@@ -1,4 +1,5 @@
--- The plan that is written for a sheet: it reads back, refusal 9 does not arise of it, and its masks keep the sheet without its offsets.
+-- The plan that is written for a sheet: it reads back, refusal 9 does not arise of it, and its
+-- masks keep the sheet without its offsets.
 use Rattle.base_laws.proofs.Kit.{◌≡◌, sym, ap, ◌∙◌, true, List, ℕ, suc, ◌+◌, ◌*◌, ◌-◌, ◌^◌, ◌≤◌, ◌<◌, dec_lt, arith, eq-eqb, le-leb, lt-ltb, le-ltb, length, get_or, List·getD-eq-default}
 use Rattle.base_search.specs.Checks.{Hold}
 use Rattle.text_reader.specs.Lines.{Line, lines}

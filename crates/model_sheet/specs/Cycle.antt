@@ -36,7 +36,8 @@ has_no_tram network r =
     every (tram_count network) (λ k. not (entry network (tram_line network k) 0 == suc r))
 
 module _ (network sheet : List Line) where
-  -- the seconds of the cycle of signal r that have run at time t, the phase that it shows then, and where step n starts
+  -- the seconds of the cycle of signal r that have run at time t, the phase that it shows then, and
+  -- where step n starts
   abbrev pub cycle_place : ℕ → ℕ → ℕ
   cycle_place r t = place_at (entry sheet r) (phases_of network r) t
 
@@ -74,7 +75,8 @@ module _ (network sheet : List Line) where
   unfoldable pub plain_sheet : List Line
   plain_sheet = record_lines letter_f (signal_count network) (λ r. list (phases_of network r) (entry sheet r))
 
-  -- A run of signal r ends at time e: a phase of the repeated cycle is over then, and the next begins there
+  -- A run of signal r ends at time e: a phase of the repeated cycle is over then, and the next
+  -- begins there
   unfoldable pub EndsAt : ℕ → ℕ → Type 0
   EndsAt r e = (k : ℕ) × (k < phases_of network r) × (cycle_place r e ≡ end_of sheet r k)
 

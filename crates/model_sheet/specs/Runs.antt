@@ -43,7 +43,8 @@ module _ (network sheet plan : List Line) where
   run_checks = each (step_count network) (λ n. each (signal_count network) (λ r. check 34 (suc n) (suc r) (rule34 n r)))
 
   -- ---- in one pass
-  -- the line of the first broken run of signal r that the first n steps leave: that of its last ordinary step; 0 for none
+  -- the line of the first broken run of signal r that the first n steps leave: that of its last
+  -- ordinary step; 0 for none
   unfoldable pub found : ℕ → ℕ → ℕ
   found zero r = 0
   found (suc n) r =
@@ -53,7 +54,8 @@ module _ (network sheet plan : List Line) where
 unfoldable pub earlier : ℕ → ℕ → Bool
 earlier x y = not (x == 0) and (y == 0 or nat_lt x y)
 
--- of the lines that were found for the first n signals the least that is not 0, and its signal from 1, the lowest of those with that line
+-- of the lines that were found for the first n signals the least that is not 0, and its signal from
+-- 1, the lowest of those with that line
 unfoldable pub least_line : (ℕ → ℕ) → ℕ → ℕ
 least_line f zero = 0
 least_line f (suc r) = if earlier (f r) (least_line f r) then f r else least_line f r

@@ -89,7 +89,8 @@ module _ (network : List Line) (first : ℕ → Bool) where
       go false true e = absurd (not-both (and_left false true e) refl)
       go false false e = refl
 
-  -- the one border movement at an end of which link i stands: its number is all that the border has there
+  -- the one border movement at an end of which link i stands: its number is all that the border has
+  -- there
   pub record Crossing (ends : ℕ → ℕ) (sums : (ℕ → ℕ) → ℕ → ℕ) (i : ℕ) : Type 0 where
     pub movement : ℕ
     pub there : movement < movement_count network

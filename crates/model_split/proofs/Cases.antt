@@ -13,8 +13,9 @@ use Rattle.model_split.specs.Splits.{Buffers, room_of, buffers_after}
 use Rattle.model_split.proofs.Opened.{opened}
 use Rattle.std.specs.Prelude.{Ok, Err}
 
--- a network text, a plan text, a set of links, the lengths of the four buffers, which hold sevens, and the buffers one behind the other after the call; or what is
--- told of a refusal, which leaves them
+-- a network text, a plan text, a set of links, the lengths of the four buffers, which hold sevens,
+-- and the buffers one behind the other after the call; or what is told of a refusal, which leaves
+-- them
 pub record SplitCase : Type 0 where
   pub network : String
   pub plan : String
@@ -46,8 +47,9 @@ infixr 40 ◌&◌
 abbrev ◌&◌ : String → String → String
 ◌&◌ = string.◌++◌
 
--- Link 2 has signal 2, as link 4 has, and leads to links 3 and 4; link 3 has neither signal nor exit, and leads to link 1. Signal 1 has no links. Left open are the
--- count of `H` lines, what waits at the entry of link 1, the exit rate of link 3, the `H` lines, and the demand of link 1.
+-- Link 2 has signal 2, as link 4 has, and leads to links 3 and 4; link 3 has neither signal nor
+-- exit, and leads to link 1. Signal 1 has no links. Left open are the count of `H` lines, what
+-- waits at the entry of link 1, the exit rate of link 3, the `H` lines, and the demand of link 1.
 abbrev network_with : String → String → String → String → String → String
 network_with past waiting exit lines demand =
     "N\t4\t2\t3\t4\t2\t" & past & "\nT\t2\t1\t2\t2\nT\t1\t2\t3\t3\nG\t20\t60\t2\t2\t10\t20\t10\t60\t10\t60\nG\t20\t60\t2\t2\t10\t20\t10\t30\t10\t30\n"
@@ -67,7 +69,8 @@ plan_with admitted let_out moved =
 abbrev the_plan : String
 the_plan = plan_with "0" "0" "3000"
 
--- the half of link 1, with its demand and what is admitted in step 3; and that of links 2 to 4, with what is let out of link 3 in step 3
+-- the half of link 1, with its demand and what is admitted in step 3; and that of links 2 to 4,
+-- with what is let out of link 3 in step 3
 abbrev one : String → String → String
 one demand admitted =
     "N\t1\t1\t0\t4\t1\t0\nT\t1\t2\t3\t3\nG\t20\t60\t2\t2\t10\t20\t10\t60\t10\t60\nQ\t60000\t10\t500\t0\t0\t0\t0\nS\t10\t0\nS\t10\t0\nS\t10\t" & demand & "\nS\t10\t0\n"
@@ -113,10 +116,12 @@ cases =
     }
     -- numbers are written without leading zeros
     ∷ record { network = network_with "00" "0000000000" "000" "" "00"; plan = plan_with "00" "0" "0000003000"; set = 1; room = rooms 108 38 198 97; text = one "3000" "3000" & rest "3000" }
-    -- a volume above 600,000 is the demand as it stands, and a sum too large for a field is the greatest number
+    -- a volume above 600,000 is the demand as it stands, and a sum too large for a field is the
+    -- greatest number
     ∷ record { network = the_network; plan = plan_with "0" "0" "600001"; set = 1; room = rooms 110 40 198 99; text = one "600001" "600001" & rest "600001" }
     ∷ record { network = the_network; plan = plan_with "9" "7" "4294967290"; set = 1; room = rooms 114 44 198 103; text = one "4294967290" "4294967295" & rest "4294967295" }
-    -- masks that no rule would let pass are written as they are; an empty plan is the K lines that hold
+    -- masks that no rule would let pass are written as they are; an empty plan is the K lines that
+    -- hold
     ∷ record {
       network = "N\t2\t1\t0\t1\t0\t0\nG\t20\t60\t2\t2\t10\t20\t10\t30\t10\t30\nQ\t9\t9\t0\t1\t1\t0\t0\nQ\t9\t9\t0\t0\t0\t0\t0\nS\t10\t0\t0\n";
       plan = "P\t99\t5\t6\t7\t8\n";
@@ -140,7 +145,8 @@ cases =
     ∷ refused the_network "x" 2147483649 "R\t40\t0\t0\n"
     ∷ refused (network_with "1" "0" "0" "H\t10\t0\t0\t0\t0\t0\t0\t0\t0\n" "0") "x" 1 "R\t40\t0\t0\n"
     ∷ refused (network_with "0" "1" "0" "" "0") "x" 1 "R\t40\t0\t0\n"
-    -- a border movement from a link with a signal and another movement, also where a signal's links lie in both halves; from a link with an exit, into one with demand
+    -- a border movement from a link with a signal and another movement, also where a signal's links
+    -- lie in both halves; from a link with an exit, into one with demand
     ∷ refused the_network "x" 12 "R\t40\t0\t0\n"
     ∷ refused the_network "x" 6 "R\t40\t0\t0\n"
     ∷ refused (network_with "0" "0" "1" "" "0") "x" 1 "R\t40\t0\t0\n"

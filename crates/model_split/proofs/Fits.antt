@@ -1,4 +1,5 @@
--- Every number that is read from a text fits a field, and so does every number that is written of a half.
+-- Every number that is read from a text fits a field, and so does every number that is written of a
+-- half.
 use Rattle.base_laws.proofs.Kit.{◌≡◌, Bool, true, false, cond, ◌⊎◌, inl, inr, List, [], ◌++◌, ℕ, zero, suc, ◌+◌, ◌*◌, ◌-◌, ◌≤◌, ◌<◌, dec_le, arith, eqb, length, get_or, List·getD-append, List·getD-eq-default, get_or-append-add}
 use Rattle.base_search.specs.Checks.{Hold}
 use Rattle.text_reader.specs.Field.{largest}

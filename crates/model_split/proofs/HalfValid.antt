@@ -1,4 +1,5 @@
--- A half of a valid network that can be split is valid, as long as the border volumes that it takes for demands are.
+-- A half of a valid network that can be split is valid, as long as the border volumes that it takes
+-- for demands are.
 use Rattle.base_laws.proofs.Kit.{◌≡◌, refl, sym, ap, ◌∙◌, Bool, true, false, not, ◌⊎◌, inl, inr, List, [], ℕ, zero, suc, ◌+◌, ◌*◌, ◌-◌, ◌≤◌, ◌<◌, dec_le, arith, leb, ltb, eqb, length, get_or, leb-true, eqb-true, eq-eqb, ne_eqb, le-leb, lt-ltb}
 use Rattle.base_search.specs.Checks.{Hold}
 use Rattle.text_reader.specs.Lines.{Line, no_line, number, is_record}

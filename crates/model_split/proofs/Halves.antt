@@ -1,4 +1,5 @@
--- Where the whole keeps its rules a half keeps its own; and where a half does, the whole keeps them of the half's links, signals and movements.
+-- Where the whole keeps its rules a half keeps its own; and where a half does, the whole keeps them
+-- of the half's links, signals and movements.
 use Rattle.base_laws.proofs.Kit.{◌≡◌, sym, ◌∙◌, Bool, true, ◌⊎◌, inl, inr, List, ℕ, suc, ◌+◌, ◌*◌, ◌-◌, ◌≤◌, ◌<◌, mul-le-mul, arith, leb-true, le-leb}
 use Rattle.text_reader.specs.Lines.{Line}
 use Rattle.base_laws.specs.Sum.{sum}
@@ -19,13 +20,15 @@ use Rattle.model_split.proofs.Lines.{is-half}
 use Rattle.model_split.proofs.HalfValid.{exit_small}
 use Rattle.base_laws.proofs.Tests.{not-both}
 
--- what the half's volumes are at most: with the border volumes, demands are at most 600,000, and what is let out is at most the half's exit rates allow
+-- what the half's volumes are at most: with the border volumes, demands are at most 600,000, and
+-- what is let out is at most the half's exit rates allow
 pub record HalfLimits (network plan : List Line) (first : ℕ → Bool) (h : Half) (n : ℕ) : Type 0 where
   pub demands : (i : ℕ) → i < link_count network → h.has-link i ≡ true → demand network n i + border_in network first plan n i ≤ 600_000
   pub exits : (i : ℕ) → i < link_count network → h.has-link i ≡ true
       → let_out network plan n i + border_out network first plan n i ≤ (exit_rate network i + border_rate network first i) * step_length network n
 
--- step n of the whole keeps the rules of the half's links, signals and movements; of 25 the half has its own limit
+-- step n of the whole keeps the rules of the half's links, signals and movements; of 25 the half
+-- has its own limit
 pub record KeepsHalf (network plan : List Line) (first : ℕ → Bool) (h : Half) (n : ℕ) : Type 0 where
   pub limits : HalfLimits network plan first h n
   pub small : Small network plan first h n

@@ -1,4 +1,5 @@
--- A plan is accepted exactly when its network's checks hold, its lines have their form and each of its steps keeps every rule.
+-- A plan is accepted exactly when its network's checks hold, its lines have their form and each of
+-- its steps keeps every rule.
 use Rattle.base_laws.proofs.Kit.{◌≡◌, refl, true, List, ℕ, suc, ◌+◌, ◌*◌, ◌≤◌, ◌<◌, length, leb-true, eqb-true, eq-eqb, le-leb}
 use Rattle.base_search.specs.Checks.{Hold}
 use Rattle.base_search.proofs.Table.{AllKept, kept-hold}

@@ -1,4 +1,5 @@
--- Short names of a network's counts, and of a half's lines and numbering. A section takes them by one `open` line.
+-- Short names of a network's counts, and of a half's lines and numbering. A section takes them by
+-- one `open` line.
 use Rattle.base_laws.proofs.Kit.{Bool, List, ℕ}
 use Rattle.text_reader.specs.Lines.{Line}
 use Rattle.model.specs.Network.{link_count, signal_count, movement_count, step_count}
@@ -15,7 +16,8 @@ pub record Counts : Type 0 where
 abbrev pub counts_of : List Line → Counts
 counts_of network = record { L = link_count network; R = signal_count network; M = movement_count network; K = step_count network }
 
--- a half's numbers, its network's and its plan's lines; whether a movement is inside; the half's number of a link, a signal and a movement
+-- a half's numbers, its network's and its plan's lines; whether a movement is inside; the half's
+-- number of a link, a signal and a movement
 pub record HalfNames : Type 0 where
   pub X : NetworkNumbers
   pub N : List Line

@@ -1,4 +1,5 @@
--- What the call promises beside the theorem: what it wrote, and that the number of a refusal is one that can arise.
+-- What the call promises beside the theorem: what it wrote, and that the number of a refusal is one
+-- that can arise.
 use Rattle.base_laws.proofs.Kit.{◌≡◌, refl, sym, ap, ◌∙◌, List, ℕ, length, take, take_at, rules}
 use Rattle.base_search.specs.declared.Refusal.{Refusal}
 use Rattle.base_search.specs.Checks.{verdict, Verdict}

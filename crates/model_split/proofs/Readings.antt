@@ -1,5 +1,6 @@
--- What the match says, and why each condition of 40 and 41 is needed: without it the theorem of splitting would be false. Each such case breaks one condition, so that the
--- call refuses it; the halves are computed all the same.
+-- What the match says, and why each condition of 40 and 41 is needed: without it the theorem of
+-- splitting would be false. Each such case breaks one condition, so that the call refuses it; the
+-- halves are computed all the same.
 use Rattle.base_laws.proofs.Kit.{◌≡◌, refl, List, [], ◌∷◌, map, ℕ}
 use Prim.Native.String.{String}
 use Rattle.base_search.specs.Checks.{refusal, verdict, Verdict}
@@ -10,7 +11,8 @@ use Rattle.model_split.specs.Splits.{Texts, network_of, plan_for, first, second,
 use Rattle.model_split.proofs.Opened.{opened}
 use Rattle.std.specs.Prelude.{Ok, Err}
 
--- the verdicts of the call, the whole and the two halves, and in step 1 what is let out of a link and admitted on another, both from 0
+-- the verdicts of the call, the whole and the two halves, and in step 1 what is let out of a link
+-- and admitted on another, both from 0
 pub record Seen : Type 0 where
   pub call : Verdict
   pub whole : Verdict
@@ -45,12 +47,15 @@ abbrev AsSaid : List (Seen × Seen) → Type 0
 AsSaid readings = map (λ p. p.0) readings ≡ map (λ p. p.1) readings
 
 the_match : AsSaid (
-    -- The match is no tautology: 5 are let out of the link that a border movement leaves, whose exit rate is 0, so that the whole is refused; but both halves are accepted.
-    -- The first lets out 3000, the second admits 2995.
+    -- The match is no tautology: 5 are let out of the link that a border movement leaves, whose
+    -- exit rate is 0, so that the whole is refused; but both halves are accepted. The first lets
+    -- out 3000, the second admits 2995.
     (seen "N\t2\t0\t1\t1\t0\t0\nQ\t60000\t10\t0\t0\t0\t9000\t0\nQ\t60000\t10\t500\t0\t0\t0\t0\nM\t1\t2\t500\t1000\nS\t10\t0\t0\n" "P\t0\t0\t5\t0\t2995\n" 1 0 1, is (Ok tt) (no 25 1 1) (Ok tt) (Ok tt) 3000 2995) ∷
-    -- a half's network may be refused where the whole's is valid, since its demand is the plan's border volume; the plan is refused too
+    -- a half's network may be refused where the whole's is valid, since its demand is the plan's
+    -- border volume; the plan is refused too
     (seen "N\t2\t0\t1\t1\t0\t0\nQ\t900000\t10\t0\t0\t0\t900000\t0\nQ\t60000\t10\t500\t0\t0\t0\t0\nM\t1\t2\t10000\t1000\nS\t60\t0\t0\n" "P\t0\t0\t0\t0\t600001\n" 1 0 1, is (Ok tt) (no 26 1 1) (no 25 1 1) (no 6 3 1) 600001 600001) ∷
-    -- a sum too large for a field on both sides: they match, since both are the greatest number, and a half is refused
+    -- a sum too large for a field on both sides: they match, since both are the greatest number,
+    -- and a half is refused
     (seen "N\t2\t0\t1\t1\t0\t0\nQ\t60000\t10\t0\t0\t0\t9000\t0\nQ\t60000\t10\t500\t0\t0\t0\t0\nM\t1\t2\t500\t1000\nS\t10\t0\t0\n" "P\t0\t9\t7\t0\t4294967295\n" 1 0 1, is (Ok tt) (no 15 1 2) (no 25 1 1) (no 6 3 1) 4294967295 4294967295) ∷
     []
     )
@@ -76,7 +81,8 @@ the-border = refl
 
 -- ---- 40, a waiting volume and an `H` line; 41
 the_rest : AsSaid (
-    -- who waits at the entry of the link that the border enters may be admitted: that is not the border's volume
+    -- who waits at the entry of the link that the border enters may be admitted: that is not the
+    -- border's volume
     (seen "N\t2\t0\t1\t1\t0\t0\nQ\t60000\t10\t0\t0\t0\t9000\t0\nQ\t60000\t10\t500\t0\t0\t0\t1000\nM\t1\t2\t500\t1000\nS\t10\t0\t0\n" "P\t0\t1000\t0\t0\t3000\n" 1 0 1, is (no 40 0 0) (Ok tt) (Ok tt) (Ok tt) 3000 4000) ∷
     -- the halves have no past, and what entered in it is missing
     (seen "N\t2\t0\t1\t1\t0\t1\nQ\t60000\t10\t0\t0\t0\t0\t0\nQ\t60000\t10\t500\t0\t0\t0\t0\nM\t1\t2\t500\t1000\nH\t10\t3000\t0\t0\t0\nS\t10\t0\t0\n" "P\t0\t0\t0\t0\t3000\n" 1 0 1, is (no 40 0 0) (Ok tt) (no 17 1 1) (Ok tt) 3000 3000) ∷

@@ -1,4 +1,5 @@
--- A network and a plan that are one half of another: every curve, signal and rule of its links, signals and movements is that of the whole.
+-- A network and a plan that are one half of another: every curve, signal and rule of its links,
+-- signals and movements is that of the whole.
 use Rattle.base_laws.proofs.Kit.{◌≡◌, refl, sym, ap, ap₂, ◌∙◌, Bool, true, false, cond, not, ◌⊎◌, inl, inr, List, ℕ, zero, suc, ◌+◌, ◌*◌, ◌-◌, ◌≤◌, ◌<◌, min, dec_le, arith, leb, eqb, le-leb, lt-leb, le-ltb, ne_eqb, eqb-true}
 use Rattle.text_reader.specs.Field.{largest}
 use Rattle.text_reader.specs.Lines.{Line}
@@ -18,7 +19,8 @@ use Rattle.model_split.proofs.Names.{counts_of, names_of}
 use Rattle.model_split.proofs.Tests.{only_same}
 use Rattle.model_split.proofs.Numbering.{renumbered, sum-ranked}
 
--- `other` and `rest` are the half h of `network` and `plan`, by the numbers that their lines say; neither network has a past
+-- `other` and `rest` are the half h of `network` and `plan`, by the numbers that their lines say;
+-- neither network has a past
 pub record IsHalf (network plan other rest : List Line) (first : ℕ → Bool) (h : Half) : Type 0 where
   pub links : link_count other ≡ rank h.has-link (link_count network)
   pub signals : signal_count other ≡ rank h.has-signal (signal_count network)
@@ -61,7 +63,8 @@ pub record Small (network plan : List Line) (first : ℕ → Bool) (h : Half) (n
   pub ins : (i : ℕ) → i < link_count network → h.has-link i ≡ true → admitted network plan n i + border_in network first plan n i ≤ largest
   pub outs : (i : ℕ) → i < link_count network → h.has-link i ≡ true → let_out network plan n i + border_out network first plan n i ≤ largest
 
--- a and b tell whether a movement's links are in the half, e that one of them is a link of it: the movement is inside, or it crosses
+-- a and b tell whether a movement's links are in the half, e that one of them is a link of it: the
+-- movement is inside, or it crosses
 parted : (a b e : Bool) (m : ℕ) → (e ≡ true → a or b ≡ true) → only (a and b) (only e m) + only (cond a (not b) b and e) m ≡ only e m
 unfolding ◌and◌ ◌or◌
 parted true true true m h = omega arith
@@ -150,7 +153,8 @@ module _ (network plan other rest : List Line) (first : ℕ → Bool) (h : Half)
   unfolding link_number
   new-end t i o s u = renumbered h.has-link t i o s u
 
-  -- a number of the movements at one end of which link i stands: of those inside, and of the border's
+  -- a number of the movements at one end of which link i stands: of those inside, and of the
+  -- border's
   module _ (i : ℕ) (t : h.has-link i ≡ true) (g f ends new_ends : ℕ → ℕ) (same : (j : ℕ) → j < M → inside network h j ≡ true → g (movement j) ≡ f j)
       (numbered : (j : ℕ) → j < M → inside network h j ≡ true → new_ends (movement j) ≡ link_number h (ends j)) (some : (j : ℕ) → j < M → 1 ≤ ends j)
       (inner-end : (j : ℕ) → inside network h j ≡ true → h.has-link (ends j - 1) ≡ true)

@@ -1,4 +1,5 @@
--- The whole is accepted exactly when both halves are and the let-out and admitted border volumes match, all by their lines.
+-- The whole is accepted exactly when both halves are and the let-out and admitted border volumes
+-- match, all by their lines.
 use Rattle.base_laws.proofs.Kit.{◌≡◌, refl, sym, ◌∙◌, Bool, true, false, cond, not, ◌⊎◌, inl, inr, List, ℕ, suc, ◌+◌, ◌*◌, ◌-◌, ◌≤◌, ◌<◌, min, arith, eqb, leb-true, le-leb, eqb-true, eq-eqb}
 use Rattle.base_search.specs.Checks.{Hold}
 use Rattle.text_reader.specs.Field.{largest}
@@ -41,7 +42,8 @@ module _ (network plan : List Line) (first : ℕ → Bool) where
   abbrev pub h₂ : Half
   h₂ = second_half network first
 
-  -- what the halves' plans let out of link i in step n, and admit on it; and that they match at the border
+  -- what the halves' plans let out of link i in step n, and admit on it; and that they match at the
+  -- border
   abbrev pub let_out_by : ℕ → ℕ → ℕ
   let_out_by n i =
       cond (first i) (let_out (network_by h₁) (plan_by h₁) n (rank first i)) (let_out (network_by h₂) (plan_by h₂) n (rank (λ k. not (first k)) i))
@@ -224,7 +226,8 @@ module _ (network plan : List Line) (first : ℕ → Bool) (holds : Hold (networ
     back-exits : (i : ℕ) → i < L → let_out network plan n i + border_out network first plan n i ≤ (exit_rate network i + border_rate network first i) * step_length network n
     back-exits = by-link (λ i. let_out network plan n i + border_out network first plan n i ≤ (exit_rate network i + border_rate network first i) * step_length network n) a.limits.exits b.limits.exits
 
-    -- the match: nothing but the border's volume is let out of a link that it leaves, since nothing else is admitted on the link that it enters
+    -- the match: nothing but the border's volume is let out of a link that it leaves, since nothing
+    -- else is admitted on the link that it enters
     nothing-else : (j : ℕ) → j < M → crosses network first j ≡ true → let_out network plan n (from_link network j - 1) ≡ 0
     nothing-else j u c =
         same-field (let_out network plan n (from_link network j - 1)) (admitted network plan n (to_link network j - 1)) (moved network plan n j)

@@ -1,4 +1,5 @@
--- The totals of two halves, by their lines, add up to those of the whole, and each link's curves are those of the whole.
+-- The totals of two halves, by their lines, add up to those of the whole, and each link's curves
+-- are those of the whole.
 use Rattle.base_laws.proofs.Kit.{◌≡◌, refl, sym, ap, ap₂, ◌∙◌, Bool, true, false, not, ◌⊎◌, inl, inr, List, ℕ, suc, ◌+◌, ◌*◌, ◌≤◌, ◌<◌, arith, eqb}
 use Rattle.text_reader.specs.Lines.{Line}
 use Rattle.base_laws.specs.Sum.{sum, only}

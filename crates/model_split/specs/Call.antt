@@ -1,5 +1,5 @@
--- The call that splits: when it refuses, and what it writes. The plan is the list of the lines that its text
--- stands for (`plan_of`).
+-- The call that splits: when it refuses, and what it writes. The plan is the list of the lines that
+-- its text stands for (`plan_of`).
 use Rattle.std.specs.Prelude.{ℕ, suc, ◌+◌, ◌*◌, ◌-◌, ◌^◌, ◌/◌, ◌%◌, Bool, not, List, [], ◌∷◌, ◌++◌, nat_le, nat_lt, ◌==◌, length, Result, Ok, Err}
 use Rattle.base_search.specs.Checks.{Checks, check, each, ◌then◌, verdict, Verdict}
 use Rattle.text_reader.specs.Lines.{Line}
@@ -18,7 +18,8 @@ unfoldable pub in_set : ℕ → ℕ → Bool
 in_set set i = set / 2 ^ i % 2 == 1
 
 module _ (network : List Line) (first : ℕ → Bool) where
-  -- border movement j leaves a link without a signal, with exit rate 0 and no other movement from it, and enters a link without demand or second border
+  -- border movement j leaves a link without a signal, with exit rate 0 and no other movement from
+  -- it, and enters a link without demand or second border
   unfoldable pub right_kind : ℕ → Bool
   right_kind j =
       signal_of network (from_link network j - 1) == 0
@@ -29,7 +30,8 @@ module _ (network : List Line) (first : ℕ → Bool) where
       and every (movement_count network)
       (λ k. k == j or not (crosses network first k and to_link network k == to_link network j))
 
-  -- 40: no `H` line, no waiting volume, links in both halves, and every border movement of the right kind
+  -- 40: no `H` line, no waiting volume, links in both halves, and every border movement of the
+  -- right kind
   unfoldable pub can_split : Bool
   can_split =
       past_count network == 0 and every (link_count network) (λ i. waiting_at_start network i == 0)

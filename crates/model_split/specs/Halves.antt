@@ -1,4 +1,5 @@
--- A network and a plan in two halves, by the set of links in the first. Links, signals, movements and steps are counted from 0.
+-- A network and a plan in two halves, by the set of links in the first. Links, signals, movements
+-- and steps are counted from 0.
 use Rattle.std.specs.Prelude.{ℕ, suc, ◌+◌, ◌*◌, ◌-◌, min, Bool, not, if◌then◌else◌, List, [], ◌∷◌, ◌++◌, ◌==◌, slice_index_or}
 use Rattle.text_reader.specs.Field.{largest}
 use Rattle.text_reader.specs.Lines.{Line, number}
@@ -37,7 +38,8 @@ module _ (network : List Line) (h : Half) where
   unfoldable pub follows : ℕ → Bool
   follows k = h.has-signal (number (tram network k) 0 - 1)
 
-  -- the numbers of `T` line k, of the `G` line of signal r as it was, and of the `M` line of movement j
+  -- the numbers of `T` line k, of the `G` line of signal r as it was, and of the `M` line of
+  -- movement j
   unfoldable pub half_tram_numbers : ℕ → List ℕ
   half_tram_numbers k =
       signal_number h (number (tram network k) 0) ∷ number (tram network k) 1 ∷ number (tram network k) 2 ∷ number (tram network k) 3 ∷ []
@@ -77,7 +79,8 @@ module _ (network : List Line) (first : ℕ → Bool) where
   unfoldable pub second_half : Half
   second_half = record { has-link = λ i. not (first i); has-signal = in_second }
 
-  -- the rate of the border movement from link i; and the border volumes into, and from, link i in step n of a plan
+  -- the rate of the border movement from link i; and the border volumes into, and from, link i in
+  -- step n of a plan
   abbrev pub border_rate : ℕ → ℕ
   border_rate i = crossing_from (rate network) i
 
@@ -88,13 +91,15 @@ module _ (network : List Line) (first : ℕ → Bool) where
   border_out plan n i = crossing_from (moved network plan n) i
 
   module _ (plan : List Line) (h : Half) where
-    -- the `Q` line of link i: the rate of a border movement becomes the exit rate of the link that it leaves, which has exit rate 0
+    -- the `Q` line of link i: the rate of a border movement becomes the exit rate of the link that
+    -- it leaves, which has exit rate 0
     unfoldable pub link_numbers : ℕ → List ℕ
     link_numbers i =
         capacity network i ∷ travel_time network i ∷ (exit_rate network i + border_rate i) ∷ signal_number h (signal_of network i) ∷ phase_mask network i
         ∷ standing network i ∷ waiting_at_start network i ∷ []
 
-    -- the `S` line of step n: the volume of a border movement is the demand of the link that it enters, which has no demand
+    -- the `S` line of step n: the volume of a border movement is the demand of the link that it
+    -- enters, which has no demand
     unfoldable pub step_numbers : ℕ → List ℕ
     step_numbers n = step_length network n ∷ picked (link_count network) h.has-link (λ i. demand network n i + border_in plan n i)
 
@@ -120,7 +125,8 @@ module _ (network : List Line) (first : ℕ → Bool) where
           step = step_numbers;
         }
 
-    -- line n of its plan: the volume of a border movement is added to what is admitted on the link that it enters, and to what is let out of the link that it leaves
+    -- line n of its plan: the volume of a border movement is added to what is admitted on the link
+    -- that it enters, and to what is let out of the link that it leaves
     unfoldable pub half_plan_numbers : ℕ → List ℕ
     half_plan_numbers n =
         picked (signal_count network) h.has-signal (shown_mask network plan n)

@@ -56,7 +56,8 @@ module _ (whole : Texts) (set : ℕ) where
   abbrev pub number₂ : ℕ → ℕ
   number₂ i = rank (λ k. not (in_set set k)) i
 
-  -- what the written plans let out of link i in step n, and admit on it: in the half that has the link
+  -- what the written plans let out of link i in step n, and admit on it: in the half that has the
+  -- link
   unfoldable pub written_let_out : ℕ → ℕ → ℕ
   written_let_out n i =
       if in_set set i
@@ -72,8 +73,9 @@ module _ (whole : Texts) (set : ℕ) where
   abbrev pub is_border : ℕ → Bool
   is_border j = crosses (network_of whole) (in_set set) j
 
-  -- The let-out and admitted border volumes match step by step. They need not, though both are written from one plan: each is a sum, of the movement's volume and of
-  -- what else is let out, or admitted, there.
+  -- The let-out and admitted border volumes match step by step. They need not, though both are
+  -- written from one plan: each is a sum, of the movement's volume and of what else is let out, or
+  -- admitted, there.
   unfoldable pub Match : Type 0
   Match = (n j : ℕ) → n < step_count (network_of whole) → j < movement_count (network_of whole) → is_border j ≡ true
       → written_let_out n (from_link (network_of whole) j - 1) ≡ written_admitted n (to_link (network_of whole) j - 1)
@@ -94,7 +96,8 @@ pub record Room (whole : Texts) (set size size₁ size₂ : ℕ) : Type 0 where
   pub for-first : ledger_size (first whole set) ≤ size₁
   pub for-second : ledger_size (second whole set) ≤ size₂
 
--- both halves are accepted, each with a ledger of its own, and the let-out and admitted border volumes match
+-- both halves are accepted, each with a ledger of its own, and the let-out and admitted border
+-- volumes match
 pub record HalvesAccepted (whole : Texts) (set size₁ size₂ : ℕ) : Type 0 where
   pub first-accepted : Accepts (first whole set) size₁
   pub second-accepted : Accepts (second whole set) size₂
@@ -120,7 +123,8 @@ pub record AddUp (whole : Texts) (set : ℕ) : Type 0 where
   pub vehicles : (totals_of (first whole set)).inside + (totals_of (second whole set)).inside ≡ (totals_of whole).inside
   pub times : (totals_of (first whole set)).doubled_time + (totals_of (second whole set)).doubled_time ≡ (totals_of whole).doubled_time
 
--- For texts that can be split. The halves' networks depend on the plan, whose border volumes are demands in them.
+-- For texts that can be split. The halves' networks depend on the plan, whose border volumes are
+-- demands in them.
 pub record Splits (whole : Texts) (set : ℕ) : Type 0 where
   pub first_back : ReadsBack whole (first whole set) set (first_half (network_of whole) (in_set set))
   pub second_back : ReadsBack whole (second whole set) set (second_half (network_of whole) (in_set set))
@@ -152,8 +156,9 @@ buffers_after network plan set old =
       plan₂ = buffer_after (verdict (split_checks network plan set (room_of old))) (plan_text₂ network plan set) old.plan₂;
     }
 
--- What the call promises of its texts, its buffers before and after, and its answer: all are those of the definitions; what was written are the texts of the halves;
--- the theorem; and a refusal's number is one that can arise.
+-- What the call promises of its texts, its buffers before and after, and its answer: all are those
+-- of the definitions; what was written are the texts of the halves; the theorem; and a refusal's
+-- number is one that can arise.
 pub record SplitInTwo (whole : Texts) (set : ℕ) (before after : Buffers) (answer : Result Lengths Refusal) : Type 0 where
   pub told : answer ≡ split_network (network_of whole) (plan_for whole) set (room_of before)
   pub holds : after ≡ buffers_after (network_of whole) (plan_for whole) set before

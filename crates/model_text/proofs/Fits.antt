@@ -1,4 +1,5 @@
--- Every number of a valid network fits a field, so that a valid network that is given by its numbers reads back from its text.
+-- Every number of a valid network fits a field, so that a valid network that is given by its
+-- numbers reads back from its text.
 use Rattle.base_laws.proofs.Kit.{◌≡◌, refl, true, cond, List, [], ℕ, zero, suc, ◌+◌, ◌*◌, ◌-◌, ◌/◌, ◌%◌, ◌^◌, ◌≤◌, ◌<◌, le_trans, pow-le-pow_right, dec_le, arith, leb, ltb, eqb, get_or, leb-true, ltb-true, eqb-true, ne_eqb}
 use Rattle.base_search.specs.Checks.{Hold}
 use Rattle.text_reader.specs.Field.{largest}

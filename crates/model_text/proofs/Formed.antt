@@ -1,4 +1,5 @@
--- A network's checks hold exactly when every line has its form, nothing follows, and no value is refused.
+-- A network's checks hold exactly when every line has its form, nothing follows, and no value is
+-- refused.
 use Rattle.base_laws.proofs.Kit.{◌≡◌, true, List, ℕ, ◌+◌, ◌*◌, ◌<◌, arith, length, get_or, drop, length-take, length-drop, eqb-true, eq-eqb}
 use Rattle.base_search.specs.Checks.{Hold}
 use Rattle.text_reader.specs.Lines.{Line, no_line, is_record}

@@ -1,4 +1,5 @@
--- What the lines of a network that is given by its numbers say, and that its text reads back as them.
+-- What the lines of a network that is given by its numbers say, and that its text reads back as
+-- them.
 use Rattle.base_laws.proofs.Kit.{◌≡◌, refl, sym, ap, ◌∙◌, true, List, [], ◌∷◌, ◌++◌, map, ℕ, zero, suc, ◌+◌, ◌<◌, arith, length, get_or, length-append, List·getD-append, take_at}
 use Rattle.text_reader.specs.Lines.{Line, no_line, number, is_record, lines}
 use Rattle.text_writer.specs.Records.{record_line, record_lines}

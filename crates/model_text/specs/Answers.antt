@@ -4,7 +4,8 @@ use Rattle.base_search.specs.Checks.{checked, Verdict}
 use Rattle.text_reader.specs.Reading.{over}
 use Rattle.base_search.specs.declared.Refusal.{Refusal}
 
--- the answer by the verdict on a text, and the buffer after: the text, and the bytes past it as they were; untouched by a refusal
+-- the answer by the verdict on a text, and the buffer after: the text, and the bytes past it as
+-- they were; untouched by a refusal
 unfoldable pub text_answer : List ℕ → Verdict → Result ℕ Refusal
 text_answer text (Ok tt) = Ok (length text)
 text_answer text (Err r) = Err r

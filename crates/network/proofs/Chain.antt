@@ -1,4 +1,5 @@
--- The stages of a network's reading, one after another: where one is refused, so is the network; and what each asks of those before it.
+-- The stages of a network's reading, one after another: where one is refused, so is the network;
+-- and what each asks of those before it.
 use Rattle.base_laws.proofs.Kit.{ℕ, ◌≡◌, sym, ◌∙◌, List, arith, length, take, length-take-le}
 use Rattle.base_search.specs.declared.Refusal.{Refusal}
 use Rattle.base_search.specs.Checks.{Checks, each, ◌then◌, verdict, Verdict}

@@ -1,4 +1,5 @@
--- The counts that a network's reading holds are those that the call tells, and its verdict is that of the check.
+-- The counts that a network's reading holds are those that the call tells, and its verdict is that
+-- of the check.
 use Rattle.base_laws.proofs.Kit.{ℕ, ◌≡◌, refl, sym, ap, ◌∙◌, List, arith}
 use Rattle.base_search.specs.declared.Refusal.{Refusal}
 use Rattle.text_reader.specs.Lines.{lines}

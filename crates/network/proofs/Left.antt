@@ -1,4 +1,5 @@
--- One stage of a network's reading after another: what is left to judge of the whole, which is refused where that is.
+-- One stage of a network's reading after another: what is left to judge of the whole, which is
+-- refused where that is.
 use Rattle.base_laws.proofs.Kit.{ℕ, ◌≡◌, ap, ◌∙◌, arith}
 use Rattle.base_search.specs.declared.Refusal.{Refusal}
 use Rattle.base_search.specs.Checks.{Checks, ◌then◌, verdict}

@@ -31,7 +31,8 @@ counts_answer network (Err r) = Err r
 unfoldable pub count_network : List Line → Result Counts Refusal
 count_network network = counts_answer network (check_network network)
 
--- a network whose counts are told is valid, the counts are within their limits, and the number of a refusal is one that can arise
+-- a network whose counts are told is valid, the counts are within their limits, and the number of a
+-- refusal is one that can arise
 pub record CountPromises (network : List Line) (answer : Result Counts Refusal) : Type 0 where
   pub valid : (counts : Counts) → answer ≡ Ok counts → ValidNetwork network
   pub few : (counts : Counts) → answer ≡ Ok counts → Few counts

@@ -54,13 +54,15 @@ pub record TimelineAsked (text : List ℕ) (reading : Reading) (links : List Lin
   pub row-room : length row ≡ row_size
   pub arrival-room : length arrivals ≡ max_links
 
--- What reading into tables promises: what they hold where the checks pass, and else the first that is broken.
+-- What reading into tables promises: what they hold where the checks pass, and else the first that
+-- is broken.
 pub record TablesJudged (checks : Checks) (Held : NetworkTables → Type 0) (result : Result NetworkTables Refusal) : Type 0 where
   pub passed : (tables : NetworkTables) → result ≡ Ok tables → verdict checks ≡ Ok tt
   pub held : (tables : NetworkTables) → result ≡ Ok tables → Held tables
   pub refused : (r : Refusal) → result ≡ Err r → verdict checks ≡ Err r
 
--- the whole text has passed, and stands in the tables with its links and its movements, and what its past gives is kept
+-- the whole text has passed, and stands in the tables with its links and its movements, and what
+-- its past gives is kept
 pub record TimelineHeld (text : List ℕ) (links : List Link) (movements : List Movement) (row : List ℕ) (arrivals : List Arrival) (tables : NetworkTables) : Type 0 where
   pub same-text : tables.text.now ≡ text
   pub same-links : tables.links.now ≡ links
@@ -81,7 +83,8 @@ pub record Rooms (signals : List Signal) (links : List Link) (movements : List M
   pub row-room : length row ≡ row_size
   pub arrival-room : length arrivals ≡ max_links
 
--- a network that has passed: its counts, the places where its `T`, its `H` and its `S` lines start, and its tables, with the signals before the plan
+-- a network that has passed: its counts, the places where its `T`, its `H` and its `S` lines start,
+-- and its tables, with the signals before the plan
 pub record Loaded (text : List ℕ) (signals : List Signal) (links : List Link) (movements : List Movement) (times : List ℕ) (reading : Reading) : Type 0 where
   pub counted : CountsHold (lines text) reading.counts
   pub trams-start : Starts text reading.trams_at (tram_line (lines text) 0)
@@ -98,7 +101,8 @@ pub record Loaded (text : List ℕ) (signals : List Signal) (links : List Link) 
 abbrev pub TablesLoaded : NetworkTables → List Signal → Type 0
 TablesLoaded tables signals = Loaded tables.text.now signals tables.links.now tables.movements.now tables.times.now tables.reading
 
--- tables of a network that has passed, with how it stands at the start: the signals before the plan, row 0, and what each link waits for
+-- tables of a network that has passed, with how it stands at the start: the signals before the
+-- plan, row 0, and what each link waits for
 pub record StartLoaded (tables : NetworkTables) (start : Start) : Type 0 where
   pub tabled : TablesLoaded tables start.signals
   pub past-held : PastHeld tables.text.now start.row start.arrivals

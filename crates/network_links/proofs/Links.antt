@@ -1,4 +1,5 @@
--- The test of a link by its table is the model's test of the link, and the turns of the loop over the `Q` lines.
+-- The test of a link by its table is the model's test of the link, and the turns of the loop over
+-- the `Q` lines.
 use Rattle.base_laws.proofs.Kit.{ℕ, ◌+◌, ◌-◌, ◌*◌, ◌%◌, ◌^◌, ◌≤◌, ◌<◌, ◌≡◌, refl, sym, ◌∙◌, Bool, true, false, cond, ◌&&◌, and-true, and-false, List, add-one, arith, le-leb, lt-leb, eqb-false, leb-true, ne_eqb, leb, ltb, eqb, length, get_or, take}
 use Rattle.std.proofs.lemmas.List.{length-take-le, get_or-take}
 use Rattle.base_search.specs.declared.Refusal.{Refusal}

@@ -1,4 +1,5 @@
--- The tests of movements by their table are the model's, and the turns of the loops over the `M` lines and over the links' shares.
+-- The tests of movements by their table are the model's, and the turns of the loops over the `M`
+-- lines and over the links' shares.
 use Rattle.base_laws.proofs.Kit.{ℕ, zero, suc, ◌+◌, ◌-◌, ◌≤◌, ◌<◌, ◌≡◌, refl, sym, ap, fun_ext, ◌∙◌, Bool, true, false, ◌&&◌, ◌||◌, List, add-one, arith, eq-eqb, ne_eqb, ltb, eqb, eqb·suc-zero, length, get_or}
 use Rattle.std.proofs.lemmas.List.{length-take-le, get_or-take}
 use Rattle.base_search.specs.declared.Refusal.{Refusal}

@@ -60,7 +60,8 @@ share_checks_in movements counts i =
     check 5 (movement_line_in counts (last_movement_in movements counts.movements (suc i))) (last_movement_in movements counts.movements (suc i))
     (valid_shares_in movements counts.movements (suc i))
 
--- what adding a share to the sum of a link requires, and promises; no link but the first 24 has a sum
+-- what adding a share to the sum of a link requires, and promises; no link but the first 24 has a
+-- sum
 pub record AddAsked (part : ℕ) (sums : List ℕ) : Type 0 where
   pub size : length sums ≡ max_links
   pub fits : (i : ℕ) → i < max_links → slice_index sums i + part < 2 ^ 64
@@ -70,7 +71,8 @@ pub record Added (from part : ℕ) (before after : List ℕ) : Type 0 where
   pub each-sum : (i : ℕ) → i < max_links
       → slice_index after i ≡ slice_index before i + only (from == i + 1) part
 
--- what summing up the shares of all movements requires, with nothing summed up yet, and the sums of the first m
+-- what summing up the shares of all movements requires, with nothing summed up yet, and the sums of
+-- the first m
 pub record SumsAsked (movements : List Movement) (sums : List ℕ) : Type 0 where
   pub few : length movements ≤ max_movements
   pub size : length sums ≡ max_links

@@ -91,7 +91,8 @@ module _ {text : List ℕ} (tables : NetworkTables) (counted : CountsHold (lines
   unfolding left timeline_left sum
   nothing m h e = let z : m ≡ 0 = omega arith in rw (e, z)
 
-  -- with no past nothing has left; with one, the curve is that of the step in which the travel time ends
+  -- with no past nothing has left; with one, the curve is that of the step in which the travel time
+  -- ends
   arrived-is : leb (left_in row i * seconds_in times arrival.step)
       (scaled_in (arrival.start) (arrival.stop) (seconds_in times arrival.step) (elapsed_in times arrival.step counts.past (travel_time_in links i)))
       ≡ has_arrived net [] (left net [] 0 i) 0 i

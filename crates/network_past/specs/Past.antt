@@ -29,7 +29,8 @@ pub record FormsHeld (text times : List ℕ) (reading : Reading) : Type 0 where
 
 -- ---- 30
 module _ (tables : NetworkTables) (demands row : List ℕ) (arrivals : List Arrival) where
-  -- link i, by the row where the past ends, the step in which its travel time ends, and its curve there
+  -- link i, by the row where the past ends, the step in which its travel time ends, and its curve
+  -- there
   unfoldable pub valid_past_in : ℕ → Bool
   valid_past_in i =
       let counts = tables.reading.counts in

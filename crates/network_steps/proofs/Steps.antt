@@ -38,7 +38,8 @@ held-numbers : {text : List ℕ} {n next links : ℕ} {step : List ℕ} → Line
 held-numbers {step = step} h e size =
     record { size = size; holds = λ k l. h.numbers k (omega arith) }
 
--- an `S` line that has passed is read again: its numbers are those of step n, and the next line is that of the step after
+-- an `S` line that has passed is read again: its numbers are those of step n, and the next line is
+-- that of the step after
 module _ {text : List ℕ} {at links : ℕ} {old : List ℕ} {next : ℕ} {step : List ℕ} (read : ReadAgain letter_s (1 + links) text at old next step) (n : ℕ) (s : Starts text at (step_line (lines text) n))
     (e : links ≡ link_count (lines text)) (f : is_form (lines text) (step_line (lines text) n) letter_s (1 + link_count (lines text)) ≡ true) where
   held : LineHeld letter_s (1 + links) text (step_line (lines text) n) next step

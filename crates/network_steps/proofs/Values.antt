@@ -1,4 +1,5 @@
--- The values of an `S` line: the demands are taken one by one, and the test of the numbers is the model's, where they are a network's.
+-- The values of an `S` line: the demands are taken one by one, and the test of the numbers is the
+-- model's, where they are a network's.
 use Rattle.base_laws.proofs.Kit.{ℕ, ◌≤◌, ◌<◌, ◌≡◌, refl, sym, ap, ap₂, ◌∙◌, Bool, true, false, List, arith, leb, length, take, drop, take-length, length-take, length-drop, get_or, get_or-take, get_or-drop}
 use Rattle.std.specs.List.{list_all}
 use Rattle.text_reader.specs.Lines.{Line}

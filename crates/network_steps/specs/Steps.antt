@@ -1,4 +1,5 @@
--- The numbers of one `S` line, its length and then the demand of each link, and what the functions that read such lines require and promise.
+-- The numbers of one `S` line, its length and then the demand of each link, and what the functions
+-- that read such lines require and promise.
 use Rattle.std.specs.Prelude.{ℕ, ◌+◌, ◌<◌, ◌≡◌, Bool, List, nat_le, length, slice_index}
 use Rattle.text_reader.specs.Lines.{lines}
 use Rattle.text_reader.specs.Reading.{Starts}
@@ -13,7 +14,8 @@ use Rattle.step_arrivals.specs.Timed.{valid_lengths, TimedTo}
 unfoldable pub valid_demands_in : List ℕ → Bool
 valid_demands_in demands = every (length demands) (λ i. nat_le (slice_index demands i) 600_000)
 
--- 6: the length is 1 to 60 and at most the shortest of all greatest times, and the demands are valid
+-- 6: the length is 1 to 60 and at most the shortest of all greatest times, and the demands are
+-- valid
 unfoldable pub valid_step_in : ℕ → List ℕ → ℕ → Bool
 valid_step_in seconds demands shortest =
     within 1 seconds 60 and nat_le seconds shortest and valid_demands_in demands

@@ -1,4 +1,5 @@
--- The places of lines by the program's counts are the model's, and each block of lines starts where the one before it ends; a record is a line of its text.
+-- The places of lines by the program's counts are the model's, and each block of lines starts where
+-- the one before it ends; a record is a line of its text.
 use Rattle.base_laws.proofs.Kit.{ℕ, ◌<◌, ◌≡◌, Bool, true, false, List, dec_le, arith, length, get_or, List·getD-eq-default}
 use Rattle.text_reader.specs.Lines.{Line, no_line, is_record}
 use Rattle.model.specs.Network.{link_count, signal_count, movement_count, tram_count, past_count, on_timeline, tram_line, signal_line, link_line, movement_line, timeline_line, step_line}

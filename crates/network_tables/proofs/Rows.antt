@@ -108,7 +108,8 @@ pub row-refused : (o : Option ℕ) {e q : Refusal} → Err q ≡ ok_or o e → (
 row-refused None h = (refl, cc)
 row-refused (Some next) h = let z : ◌≡◌ {A = ℕ} 0 1 = cc in absurd (omega arith)
 
--- a line that has passed, read again: its answer where none is for a malformed line, which it is not
+-- a line that has passed, read again: its answer where none is for a malformed line, which it is
+-- not
 pub again : {letter width : ℕ} {text : List ℕ} {at : ℕ} {before after : List ℕ} (r : Option ℕ) → RowRead letter width text at before r after → ReadAgain letter width text at before (unwrap_or r at) after
 again (Some next) row = record { size = row.size; held = λ i s f. row.held next refl i s }
 again None row = record { size = row.size; held = λ i s f. let m = row.malformed refl i s in let z : ◌≡◌ {A = ℕ} 0 1 = cc in absurd (omega arith) }

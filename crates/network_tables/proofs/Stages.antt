@@ -1,4 +1,5 @@
--- What a stage of a network's reading promises, by the verdict on its checks; and one stage after another.
+-- What a stage of a network's reading promises, by the verdict on its checks; and one stage after
+-- another.
 use Rattle.base_laws.proofs.Kit.{ℕ, ◌≡◌, sym, ap, ◌∙◌, List, arith}
 use Rattle.base_search.specs.declared.Refusal.{Refusal}
 use Rattle.base_search.specs.Checks.{Checks, verdict}

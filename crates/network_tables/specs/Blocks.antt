@@ -50,7 +50,8 @@ module _ {T : Type 0} (Gives : List ℕ → T → Type 0) where
     pub room : length table ≡ size
     pub rows : RowsTo (lines text) b width i table
 
-  -- the checks of a block of `count` lines are their form, and then what is said of line i when it stands in the table; line `first`, from 1, is the first of them
+  -- the checks of a block of `count` lines are their form, and then what is said of line i when it
+  -- stands in the table; line `first`, from 1, is the first of them
   pub record RowsJudged (text : List Line) (b : Block) (letter width first count size : ℕ) (post : Bor (List T) → ℕ → Verdict → Type 0) : Type 0 where
     pub counted : b.count ≡ count
     pub places : (i : ℕ) → suc (b.place i) ≡ first + i

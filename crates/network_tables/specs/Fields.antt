@@ -1,5 +1,5 @@
--- The numbers of the program's tables by their names in the model. Links, movements and signals are counted from 0; a link's signal and a movement's links are
--- named from 1.
+-- The numbers of the program's tables by their names in the model. Links, movements and signals are
+-- counted from 0; a link's signal and a movement's links are named from 1.
 use Rattle.std.specs.Prelude.{ℕ, suc, if◌then◌else◌, ◌==◌, ◌+◌, ◌*◌, ◌≤◌, ◌<◌, List, [], ◌∷◌, length, slice_index, slice_index_or}
 use Rattle.model.specs.declared.Signal.{Signal}
 use Rattle.model.specs.Network.{max_links, max_signals, max_movements, max_steps}
@@ -129,7 +129,8 @@ rate_in movements j = (movement_at movements j).rate
 abbrev pub share_in : List Movement → ℕ → ℕ
 share_in movements j = (movement_at movements j).share
 
--- the numbers of an `H` line: what entered link i in its step, and what left it; its length stands first, as in an `S` line
+-- the numbers of an `H` line: what entered link i in its step, and what left it; its length stands
+-- first, as in an `S` line
 abbrev pub past_entries_in : List ℕ → ℕ → ℕ
 past_entries_in past i = slice_index past (1 + 2 * i)
 

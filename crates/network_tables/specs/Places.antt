@@ -1,5 +1,5 @@
--- The places of lines in a network text and of numbers in a `P` line, from 0, by the counts of the `N` line.
--- proofs/Tables.antt shows that these are the model's places.
+-- The places of lines in a network text and of numbers in a `P` line, from 0, by the counts of the
+-- `N` line. proofs/Tables.antt shows that these are the model's places.
 use Rattle.std.specs.Prelude.{ℕ, ◌+◌, ◌*◌, ◌≤◌}
 use Rattle.model.specs.Network.{max_links, max_signals, max_movements, max_steps, max_trams, max_past}
 use Rattle.network_tables.specs.declared.Counts.{Counts}
@@ -23,7 +23,8 @@ timeline_line_in c m = 1 + (c.trams + (c.signals + (c.links + (c.movements + m))
 abbrev pub step_line_in : Counts → ℕ → ℕ
 step_line_in c n = timeline_line_in c (c.past + n)
 
--- the numbers of a `P` line: admitted on link i, let out from link i, of movement j; and how many there are
+-- the numbers of a `P` line: admitted on link i, let out from link i, of movement j; and how many
+-- there are
 abbrev pub admitted_place : Counts → ℕ → ℕ
 admitted_place c i = c.signals + i
 

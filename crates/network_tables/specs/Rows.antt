@@ -1,11 +1,13 @@
--- What the reading of one line's numbers into a table promises, over the lines of the text: `i` is the line that starts at the place.
+-- What the reading of one line's numbers into a table promises, over the lines of the text: `i` is
+-- the line that starts at the place.
 use Rattle.std.specs.Prelude.{ℕ, suc, ◌≤◌, ◌<◌, ◌≡◌, Bool, true, false, List, length, slice_index, slice_index_or, Option, Some, None}
 use Rattle.text_reader.specs.Lines.{lines, no_line, starts_as}
 use Rattle.text_reader.specs.Reading.{Starts}
 use Rattle.model.specs.Network.{entry}
 use Rattle.model.specs.Table.{is_form}
 
--- line i has the letter and so many numbers, the row begins with these, and line i + 1 starts at `next`
+-- line i has the letter and so many numbers, the row begins with these, and line i + 1 starts at
+-- `next`
 pub record LineHeld (letter width : ℕ) (text : List ℕ) (i next : ℕ) (row : List ℕ) : Type 0 where
   pub form : is_form (lines text) i letter width ≡ true
   pub numbers : (k : ℕ) → k < width → slice_index row k ≡ entry (lines text) i k

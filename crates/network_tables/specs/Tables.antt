@@ -1,5 +1,5 @@
--- What the program's tables hold of a network text while it is judged. These definitions are not the model's: the
--- contracts between the crates use them.
+-- What the program's tables hold of a network text while it is judged. These definitions are not
+-- the model's: the contracts between the crates use them.
 use Rattle.std.specs.Prelude.{ℕ, ◌+◌, ◌*◌, ◌≤◌, ◌<◌, ◌≡◌, List, nat_le, length, slice_index, Result, Ok, Err}
 use Rattle.base_search.specs.Checks.{Checks, verdict, Verdict}
 use Rattle.text_reader.specs.Lines.{Line, lines}
@@ -21,7 +21,8 @@ unfoldable pub stage_verdict : Result Reading Refusal → Verdict
 stage_verdict (Ok reading) = Ok tt
 stage_verdict (Err r) = Err r
 
--- What a stage of a network's reading promises: the verdict on its checks, and where they pass, what is held.
+-- What a stage of a network's reading promises: the verdict on its checks, and where they pass,
+-- what is held.
 pub record Judged (checks : Checks) (Held : Reading → Type 0) (result : Result Reading Refusal) : Type 0 where
   pub told : stage_verdict result ≡ verdict checks
   pub held : (reading : Reading) → result ≡ Ok reading → Held reading
@@ -67,7 +68,8 @@ pub record TablesSized (reading : Reading) (links : List Link) (movements : List
 pub record FewPhases (network : List Line) (signals : List Signal) : Type 0 where
   pub few : (r : ℕ) → r < signal_count network → (signal_at signals r).phases ≤ 8
 
--- the shortest of all greatest times: a step of x seconds is at most every phase's greatest time exactly if it is at most this
+-- the shortest of all greatest times: a step of x seconds is at most every phase's greatest time
+-- exactly if it is at most this
 pub record Shortest (network : List Line) (shortest : ℕ) : Type 0 where
   pub least : (x : ℕ) → x ≤ 60
       → nat_le x shortest

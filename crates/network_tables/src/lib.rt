@@ -1,5 +1,5 @@
-// The program's tables of a network and a plan: their sizes, and each number by its name in the model. Links, signals, movements
-// and steps are counted from 0 here.
+// The program's tables of a network and a plan: their sizes, and each number by its name in the
+// model. Links, signals, movements and steps are counted from 0 here.
 #![tactic(auto)]
 
 ghost use Rattle.std.specs.Prelude.{◌≡◌, ◌+◌, ◌*◌, ◌<◌, ◌≤◌, ◌^◌, true, length, get_or};
@@ -16,45 +16,59 @@ ghost use Rattle.network_tables.specs.Tables.{moved_to, TablesSized};
 
 use base_search::{Reason, Refusal};
 
+/// The most links of a network.
 pub const MAX_LINKS: usize = 24;
 
+/// The most signals of a network.
 pub const MAX_SIGNALS: usize = 8;
 
+/// The most movements of a network.
 pub const MAX_MOVEMENTS: usize = 64;
 
+/// The most steps of a plan, and of a plan with the past before it.
 pub const MAX_STEPS: usize = 120;
 
+/// The most tram lines of a network.
 pub const MAX_TRAMS: usize = 16;
 
+/// The most past steps of a network.
 pub const MAX_PAST: usize = 120;
 
+/// The most seconds of a step.
 pub const MAX_SECONDS: u32 = 60;
 
-// What the shares of a link's movements sum to, in thousandths.
+/// What the shares of a link's movements sum to, in thousandths.
 pub const WHOLE_SHARE: u32 = 1000;
 
-// How many numbers an `N`, a `T`, a `Q` and an `M` line have, and at most an `H`, an `S` and a `P` line.
+/// How many numbers an `N` line has.
 pub const COUNT_FIELDS: usize = 6;
 
+/// How many numbers a `T` line has.
 pub const TRAM_FIELDS: usize = 4;
 
+/// How many numbers a `Q` line has.
 pub const LINK_FIELDS: usize = 7;
 
+/// How many numbers an `M` line has.
 pub const MOVEMENT_FIELDS: usize = 4;
 
+/// The most numbers of an `H` line.
 pub const PAST_SIZE: usize = 1 + 2 * MAX_LINKS;
 
+/// The most numbers of an `S` line.
 pub const STEP_SIZE: usize = 1 + MAX_LINKS;
 
+/// The most numbers of a `P` line.
 pub const LINE_SIZE: usize = MAX_SIGNALS + 2 * MAX_LINKS + MAX_MOVEMENTS;
 
-// The sizes of the times of all boundaries of the timeline, and of a row of the ledger.
+/// The most boundaries of the timeline, each with its time.
 pub const TIME_TABLE_SIZE: usize = MAX_STEPS + 1;
 
+/// The most numbers of a row of the ledger.
 pub const ROW_SIZE: usize = 2 * MAX_LINKS;
 
-// The counts of an `N` line. The type does not say that they are within the limits (`Few`): they are judged after they
-// are read (refusal 2).
+/// The counts of an `N` line. The type does not say that they are within the limits (`Few`): they
+/// are judged after they are read (refusal 2).
 #[derive(Clone, Copy)]
 pub struct Counts {
     pub links: usize,
@@ -80,7 +94,8 @@ impl From<[u32; COUNT_FIELDS]> for Counts {
     }
 }
 
-// A `T` line: the signal and the phase that a tram asks, from its first to its last step; all counted from 1.
+/// A `T` line: the signal and the phase that a tram asks, from its first to its last step; all
+/// counted from 1.
 #[derive(Clone, Copy, Default)]
 pub struct Tram {
     pub signal: u32,
@@ -110,8 +125,8 @@ impl From<Tram> for [u32; TRAM_FIELDS] {
     }
 }
 
-// A `Q` line: a link, with the number of its signal, from 1, or 0 for none: not an `Option`, since it is compared with
-// numbers of the text and written back as it is.
+/// A `Q` line: a link, with the number of its signal, from 1, or 0 for none: not an `Option`, since
+/// it is compared with numbers of the text and written back as it is.
 #[derive(Clone, Copy, Default)]
 pub struct Link {
     pub capacity: u32,
@@ -155,7 +170,7 @@ impl From<Link> for [u32; LINK_FIELDS] {
     }
 }
 
-// An `M` line: a movement from one link to another, both numbered from 1.
+/// An `M` line: a movement from one link to another, both numbered from 1.
 #[derive(Clone, Copy, Default)]
 pub struct Movement {
     pub from: u32,
@@ -185,9 +200,10 @@ impl From<Movement> for [u32; MOVEMENT_FIELDS] {
     }
 }
 
-// How far a network text has been read while its lines pass: its counts, the place of the next line, the places where
-// its `T`, its `H` and its `S` lines start, the shortest of all greatest times, and whether the lengths of the past
-// steps and the number of all steps are valid: a `bool`, since refusal 30 is reported after all lines.
+/// How far a network text has been read while its lines pass: its counts, the place of the next
+/// line, the places where its `T`, its `H` and its `S` lines start, the shortest of all greatest
+/// times, and whether the lengths of the past steps and the number of all steps are valid: a `bool`,
+/// since refusal 30 is reported after all lines.
 #[derive(Clone, Copy)]
 pub struct Reading {
     pub counts: Counts,
@@ -200,6 +216,7 @@ pub struct Reading {
 }
 
 impl Reading {
+    /// The reading with its next line at another place.
     pub fn moved_to(mut self, next: usize) -> Self
         ensures { result ≡ moved_to self next }
     {
@@ -208,8 +225,9 @@ impl Reading {
     }
 }
 
-// A network's text and the tables that are read from it, without its signals, which change from step to step. All
-// tables are lent; those of links and movements are cut to as many as the network has.
+/// A network's text and the tables that are read from it, without its signals, which change from
+/// step to step. All tables are lent; those of links and movements are cut to as many as the network
+/// has.
 #[derive(Clone, Copy)]
 pub struct NetworkTables<'a> {
     pub text: &'a [u8],
@@ -220,8 +238,10 @@ pub struct NetworkTables<'a> {
     ghost sized: { TablesSized reading links.now movements.now times.now },
 }
 
-// The places of lines in a network text, from 0, and how many numbers an `H`, an `S` and a `P` line have.
+// The places of lines in a network text, from 0, and how many numbers an `H`, an `S` and a `P` line
+// have.
 impl Counts {
+    /// The line of tram k; the line behind the last where k is their number.
     pub fn tram_line(self, k: usize) -> usize
         requires { k ≤ max_trams }
         ensures { result ≡ tram_line_in self k }
@@ -229,6 +249,7 @@ impl Counts {
         1 + k
     }
 
+    /// The line of signal r.
     pub fn signal_line(self, r: usize) -> usize
         requires { Few self × (r ≤ max_signals) }
         ensures { result ≡ signal_line_in self r }
@@ -236,6 +257,7 @@ impl Counts {
         1 + (self.trams + r)
     }
 
+    /// The line of link i.
     pub fn link_line(self, i: usize) -> usize
         requires { Few self × (i ≤ max_links) }
         ensures { result ≡ link_line_in self i }
@@ -243,6 +265,7 @@ impl Counts {
         1 + (self.trams + (self.signals + i))
     }
 
+    /// The line of movement j.
     pub fn movement_line(self, j: usize) -> usize
         requires { Few self × (j ≤ max_movements) }
         ensures { result ≡ movement_line_in self j }
@@ -250,6 +273,7 @@ impl Counts {
         1 + (self.trams + (self.signals + (self.links + j)))
     }
 
+    /// The line of step m of the timeline, which begins with the past.
     pub fn timeline_line(self, m: usize) -> usize
         requires { Few self × (m ≤ max_past + max_steps) }
         ensures { result ≡ timeline_line_in self m }
@@ -257,6 +281,7 @@ impl Counts {
         1 + (self.trams + (self.signals + (self.links + (self.movements + m))))
     }
 
+    /// The line of step n of the plan.
     pub fn step_line(self, n: usize) -> usize
         requires { Few self × (n ≤ max_steps) }
         ensures { result ≡ step_line_in self n }
@@ -264,6 +289,7 @@ impl Counts {
         self.timeline_line(self.past + n)
     }
 
+    /// How many numbers an `H` line has.
     pub fn past_width(self) -> usize
         requires { Few self }
         ensures { result ≡ 1 + 2 * self.links }
@@ -271,6 +297,7 @@ impl Counts {
         1 + 2 * self.links
     }
 
+    /// How many numbers an `S` line has.
     pub fn step_width(self) -> usize
         requires { Few self }
         ensures { result ≡ 1 + self.links }
@@ -278,6 +305,7 @@ impl Counts {
         1 + self.links
     }
 
+    /// How many numbers a `P` line has.
     pub fn plan_width(self) -> usize
         requires { Few self }
         ensures { result ≡ plan_width self }
@@ -286,31 +314,31 @@ impl Counts {
     }
 }
 
-// The whole product of two numbers of 32 bits.
+/// The whole product of two numbers of 32 bits.
 pub fn product(a: u32, b: u32) -> u64
     ensures { result ≡ a * b }
 {
     u64::from(a) * u64::from(b)
 }
 
-// Reads a line of this letter, whose numbers fill a row: the place of the next line.
+/// Reads a line of this letter, whose numbers fill a row: the place of the next line.
 pub fn read_row(text: &[u8], at: usize, letter: u8, row: &mut [u32]) -> Option<usize>
     ensures { RowRead letter (length row.old) text.now at row.old result row.new }
 {
     text_reader::line_at(text, at, letter, row)
 }
 
-// Reads again a line that has passed, which is never malformed; returns the place of the next
-// line. For callers that promise something only of lines that have passed: `read_passed` takes less
-// time.
+/// Reads again a line that has passed, which is never malformed; returns the place of the next
+/// line. For callers that promise something only of lines that have passed: `read_passed` takes less
+/// time.
 pub fn read_again(text: &[u8], at: usize, letter: u8, row: &mut [u32]) -> usize
     ensures { ReadAgain letter (length row.old) text.now at row.old result row.new }
 {
     read_row(text, at, letter, row).unwrap_or(at)
 }
 
-// The same where it is required that the line of this letter has passed, so that none of its bytes
-// is tested again.
+/// The same where it is required that the line of this letter has passed, so that none of its bytes
+/// is tested again.
 pub fn read_passed(text: &[u8], at: usize, letter: u8, row: &mut [u32]) -> usize
     requires passed { is_record letter (length row.old) (line_at text.now at) ≡ true }
     ensures { ReadAgain letter (length row.old) text.now at row.old result row.new }
@@ -318,17 +346,18 @@ pub fn read_passed(text: &[u8], at: usize, letter: u8, row: &mut [u32]) -> usize
     text_reader::passed_line_at(text, at, row)
 }
 
-// Reads the beginning of a line of this letter: the numbers that fill a row, whatever follows them. Returns a `bool`,
-// since there is no place of a next line.
+/// Reads the beginning of a line of this letter: the numbers that fill a row, whatever follows them.
+/// Returns a `bool`, since there is no place of a next line.
 pub fn read_head(text: &[u8], at: usize, letter: u8, row: &mut [u32]) -> bool
     ensures { HeadRead letter (length row.old) text.now at row.old result row.new }
 {
     text_reader::head_at(text, at, letter, row)
 }
 
-// Reads `count` lines of a letter into the items of a table, and judges each item before it reads the next line.
-// Returns the place after the last of them, or the first refusal. `first` is the number, from 1, of the line at `at`.
-// By index: the closure judges the table up to the item, and could not read it while `iter_mut` lends the item.
+/// Reads `count` lines of a letter into the items of a table, and judges each item before it reads
+/// the next line. Returns the place after the last of them, or the first refusal. `first` is the
+/// number, from 1, of the line at `at`. By index: the closure judges the table up to the item, and
+/// could not read it while `iter_mut` lends the item.
 pub fn read_rows<
     const W: usize,
     T: From<[u32; W]> + Copy,
@@ -362,7 +391,7 @@ pub fn read_rows<
     Ok(place)
 }
 
-// Adds numbers to sums; none if a sum does not fit 32 bits.
+/// Adds numbers to sums; none if a sum does not fit 32 bits.
 pub fn add_numbers(numbers: &[u32], sums: &mut [u32]) -> Option<()>
     requires { length numbers.now ≤ length sums.old }
     ensures { Summed numbers.now sums.old result sums.new }
@@ -373,7 +402,7 @@ pub fn add_numbers(numbers: &[u32], sums: &mut [u32]) -> Option<()>
     Some(())
 }
 
-// Adds numbers to sums that fit 32 bits.
+/// Adds numbers to sums that fit 32 bits.
 pub fn add_each(numbers: &[u32], sums: &mut [u32])
     requires { EachFits numbers.now sums.old }
     ensures { EachAdded numbers.now sums.old sums.new }
@@ -383,9 +412,10 @@ pub fn add_each(numbers: &[u32], sums: &mut [u32])
     }
 }
 
-// The numbers of an `S` line: its length, and the demand of link `i`. An `S` line and a `P` line are slices, as callers
-// lend them. Each function requires `i < max_links`: with an index type for this, each caller would have to make one
-// first.
+// An `S` line and a `P` line are slices, as callers lend them. Each function requires
+// `i < max_links`: with an index type for this, each caller would have to make one first.
+
+/// The seconds of a step, by its `S` line.
 pub fn step_length(step: &[u32]) -> u32
     requires { length step.now ≡ step_size }
     ensures { result ≡ length_in step.now }
@@ -393,6 +423,7 @@ pub fn step_length(step: &[u32]) -> u32
     step[0]
 }
 
+/// The demand of link i, in thousandths of a vehicle.
 pub fn demand(step: &[u32], i: usize) -> u32
     requires { (i < max_links) × (length step.now ≡ step_size) }
     ensures { result ≡ demand_in step.now i }
@@ -400,8 +431,8 @@ pub fn demand(step: &[u32], i: usize) -> u32
     step[1 + i]
 }
 
-// The numbers of a `P` line: what it admits on link i, lets out from link i, and moves by movement j. Line and counts
-// are two parameters: only some callers have a `Step`, which has both.
+/// What a `P` line admits on link i, in thousandths of a vehicle. Line and counts are two
+/// parameters: only some callers have a `Step`, which has both.
 pub fn admitted(line: &[u32], counts: Counts, i: usize) -> u32
     requires { Few counts × (i < max_links) × (length line.now ≡ line_size) }
     ensures { result ≡ admitted_in counts line.now i }
@@ -409,6 +440,7 @@ pub fn admitted(line: &[u32], counts: Counts, i: usize) -> u32
     line[counts.signals + i]
 }
 
+/// What a `P` line lets out from link i, in thousandths of a vehicle.
 pub fn let_out(line: &[u32], counts: Counts, i: usize) -> u32
     requires { Few counts × (i < max_links) × (length line.now ≡ line_size) }
     ensures { result ≡ let_out_in counts line.now i }
@@ -416,6 +448,7 @@ pub fn let_out(line: &[u32], counts: Counts, i: usize) -> u32
     line[counts.signals + (counts.links + i)]
 }
 
+/// What a `P` line moves by movement j, in thousandths of a vehicle.
 pub fn moved(line: &[u32], counts: Counts, j: usize) -> u32
     requires { Few counts × (j < max_movements) × (length line.now ≡ line_size) }
     ensures { result ≡ moved_in counts line.now j }
@@ -423,7 +456,7 @@ pub fn moved(line: &[u32], counts: Counts, j: usize) -> u32
     line[counts.signals + (2 * counts.links + j)]
 }
 
-// entered and left of link i in a row of the ledger, which is flat, as C lends it.
+/// What has entered link i, in a row of the ledger, which is flat, as C lends it.
 pub fn entered(row: &[u32], i: usize) -> u32
     requires { 2 * i + 1 < length row.now }
     ensures { result ≡ entered_in row.now i }
@@ -431,6 +464,7 @@ pub fn entered(row: &[u32], i: usize) -> u32
     row[2 * i]
 }
 
+/// What has left link i, in a row of the ledger.
 pub fn left(row: &[u32], i: usize) -> u32
     requires { 2 * i + 1 < length row.now }
     ensures { result ≡ left_in row.now i }
@@ -438,7 +472,7 @@ pub fn left(row: &[u32], i: usize) -> u32
     row[2 * i + 1]
 }
 
-// Where row `n` of a ledger of so many links starts.
+/// Where row `n` of a ledger of so many links starts.
 pub fn row_start(n: usize, count: usize) -> usize
     requires { (n ≤ max_steps + 1) × (count ≤ max_links) }
     ensures { result ≡ 2 * n * count }
@@ -446,7 +480,8 @@ pub fn row_start(n: usize, count: usize) -> usize
     2 * n * count
 }
 
-// Entered and left of link i at boundary `n`, as a ledger has them. C lends the ledger as a slice, so that the count of links stands beside it.
+/// What has entered link i at boundary n, as a ledger has it. C lends the ledger as a slice,
+/// so that the count of links stands beside it.
 pub fn entered_at(ledger: &[u32], count: usize, n: usize, i: usize) -> u32
     requires { RowHeld ledger.now count n i }
     ensures { result ≡ entered_at ledger.now count n i }
@@ -455,6 +490,7 @@ pub fn entered_at(ledger: &[u32], count: usize, n: usize, i: usize) -> u32
     ledger[start + 2 * i]
 }
 
+/// What has left link i at boundary n, as a ledger has it.
 pub fn left_at(ledger: &[u32], count: usize, n: usize, i: usize) -> u32
     requires { RowHeld ledger.now count n i }
     ensures { result ≡ left_at ledger.now count n i }

@@ -1,4 +1,5 @@
--- The phases that trams ask in a step, by their table: one tram after another, from the last to the first, and that they are the model's.
+-- The phases that trams ask in a step, by their table: one tram after another, from the last to the
+-- first, and that they are the model's.
 use Rattle.base_laws.proofs.Kit.{ℕ, zero, suc, ◌+◌, ◌-◌, ◌≤◌, ◌<◌, ◌≡◌, refl, ap, ◌∙◌, Bool, true, false, ◌&&◌, cond, ◌≢◌, List, ◌∷◌, ℕ_discrete, add-one, arith, leb-true, eq-eqb, ne_eqb, leb, length, get_or, set, take, drop, length-set, length-take, length-drop, drop_of_length-le, get_or-set_same, get_or-set_other, drop-cons}
 use Rattle.std.specs.Prelude.{reverse}
 use Rattle.std.proofs.lemmas.List.{length-reverse, get_or-reverse, get_or_default}

@@ -1,4 +1,5 @@
--- The turns and the returns of the loops over the `T` lines of a network, each in the form of a need.
+-- The turns and the returns of the loops over the `T` lines of a network, each in the form of a
+-- need.
 use Rattle.base_laws.proofs.Kit.{ℕ, suc, ◌+◌, ◌-◌, ◌≤◌, ◌<◌, ◌≡◌, refl, sym, ap, ◌∙◌, Bool, List, length, take, arith, leb-true}
 use Rattle.base_search.specs.declared.Refusal.{Refusal}
 use Rattle.base_search.specs.Checks.{Verdict, each, checked, verdict, Hold}

@@ -7,7 +7,8 @@ use Rattle.model.specs.Table.{letter_p}
 use Rattle.network_tables.specs.declared.Counts.{Counts}
 use Rattle.network_tables.specs.Places.{plan_width, Few}
 
--- the column of number k of a line: masks, admitted, let out, moved, each block with room for as many as a network may have
+-- the column of number k of a line: masks, admitted, let out, moved, each block with room for as
+-- many as a network may have
 unfoldable pub column_in : Counts → ℕ → ℕ
 column_in counts k =
     if nat_lt k counts.signals then k

@@ -10,7 +10,8 @@ use Rattle.network_writer.specs.declared.Output.{Output}
 abbrev pub longest : ℕ
 longest = 2 + 21 * line_size
 
--- A text of so many lines was put at the place: it is written there if it ends within the buffer, and the place is behind it in any case.
+-- A text of so many lines was put at the place: it is written there if it ends within the buffer,
+-- and the place is behind it in any case.
 pub record Put (count : ℕ) (text : List ℕ) (old new : Output) : Type 0 where
   pub buffer : new.out.ghost_name ≡ old.out.ghost_name
   pub ends : new.at ≡ old.at + length text
@@ -22,7 +23,8 @@ pub record Put (count : ℕ) (text : List ℕ) (old new : Output) : Type 0 where
 abbrev pub Early : ℕ → Output → Type 0
 Early count output = output.at + longest * count ≤ 1_000_000
 
--- the text was put at the beginning of a buffer: it is written there if it fits, and its length is returned in any case
+-- the text was put at the beginning of a buffer: it is written there if it fits, and its length is
+-- returned in any case
 pub record PutWhole (text old new : List ℕ) (size : ℕ) : Type 0 where
   pub long : size ≡ length text
   pub is : size ≤ length old → new ≡ over text old

@@ -28,7 +28,8 @@ record ComparisonCase : Type 0 where
   second_size : ℕ
   answer : Result Comparison ComparisonRefusal
 
--- a plan of the corridor that shows the phases of c1, by what it admits in step 1, moves in steps 2 and 3, and lets out in steps 3 and 4
+-- a plan of the corridor that shows the phases of c1, by what it admits in step 1, moves in steps 2
+-- and 3, and lets out in steps 3 and 4
 abbrev plan : String → String → String → String → String → String
 plan admitted moved2 moved3 out3 out4 =
     "P\t1\t" ++ admitted ++ "\t0\t0\t0\t0\n"
@@ -49,7 +50,8 @@ compares first second order gap = record { network = the_network; first = first;
 abbrev two_links : String
 two_links = "N\t2\t0\t0\t2\t0\t0\nQ\t60000\t10\t500\t0\t0\t5000\t0\nQ\t60000\t10\t500\t0\t0\t5000\t0\nS\t10\t0\t0\nS\t10\t0\t0\n"
 
--- the same behind a past step in which some of the first link's came, and with some who wait outside
+-- the same behind a past step in which some of the first link's came, and with some who wait
+-- outside
 abbrev behind : String
 behind = "N\t2\t0\t0\t2\t0\t1\nQ\t60000\t10\t500\t0\t0\t3000\t1000\nQ\t60000\t10\t500\t0\t0\t5000\t0\nH\t10\t2000\t0\t0\t0\nS\t10\t0\t0\nS\t10\t0\t0\n"
 
@@ -71,13 +73,15 @@ invalid_network = corridor "31" "40" "60000" "10"
 
 abbrev cases : List ComparisonCase
 cases =
-    -- equal at every boundary: the same plan; one that moves earlier; one that admits what the other has wait outside; one that lets out from another link
+    -- equal at every boundary: the same plan; one that moves earlier; one that admits what the
+    -- other has wait outside; one that lets out from another link
     compares the_plan the_plan Equal (pos 0)
     ∷ compares the_plan (plan "5000" "5000" "0" "3000" "2000") Equal (pos 0)
     ∷ compares idle (plan "5000" "0" "0" "0" "0") Equal (pos 0)
     ∷ on two_links from_first from_second Equal (pos 0)
     ∷ on behind from_first from_second Equal (pos 0)
-    -- ahead and behind, also where the other draws level at the last boundary, and where the other's text is empty
+    -- ahead and behind, also where the other draws level at the last boundary, and where the
+    -- other's text is empty
     ∷ compares the_plan idle Ahead (negsuc 109_999)
     ∷ compares idle the_plan Behind (pos 110_000)
     ∷ compares the_plan all_at_last Ahead (negsuc 59_999)
@@ -87,7 +91,8 @@ cases =
     ∷ compares (plan "5000" "3000" "0" "3000" "0") all_at_last Crossing (negsuc 39_999)
     ∷ compares all_at_last (plan "5000" "3000" "0" "3000" "0") Crossing (pos 40_000)
     ∷ compares (plan "5000" "3000" "2000" "1000" "0") (plan "5000" "3000" "2000" "0" "3000") Crossing (pos 0)
-    -- the network comes first, then all of the first plan: its ledger and its lines come before the second's ledger
+    -- the network comes first, then all of the first plan: its ledger and its lines come before the
+    -- second's ledger
     ∷ refuses invalid_network the_plan the_plan 0 0 (Err (Network (refusal 3 2 1)))
     ∷ refuses the_network the_plan the_plan 19 19 (Err (First (refusal 8 0 0)))
     ∷ refuses the_network (plan_with "1" "1" "1" "0" "3000") the_plan 20 19 (Err (First (refusal 13 4 1)))
@@ -103,7 +108,8 @@ the-cases : map told cases ≡ map (λ (c : ComparisonCase). c.answer) cases
 unfolding comparison-opened
 the-cases = refl
 
--- the second ledger, of sevens: untouched where the first plan is refused; row 0 where the first is accepted and line 1 of the second is not
+-- the second ledger, of sevens: untouched where the first plan is refused; row 0 where the first is
+-- accepted and line 1 of the second is not
 abbrev second-ledger : String → String → List ℕ
 second-ledger first second = second_ledger_after (lines (bytes the_network)) (plan_of (bytes the_network) (bytes first)) (plan_of (bytes the_network) (bytes second)) 20 (replicate 20 7)
 

@@ -1,4 +1,5 @@
--- The curves of two plan texts, read again: one law for each way through a turn, and that they are the curves of the plans that the texts mean.
+-- The curves of two plan texts, read again: one law for each way through a turn, and that they are
+-- the curves of the plans that the texts mean.
 use Rattle.base_laws.proofs.Kit.{ℕ, suc, ◌+◌, ◌*◌, ◌≤◌, ◌<◌, ◌≡◌, refl, sym, ap, ap₂, ◌∙◌, true, ◌&&◌, List, ◌++◌, dec_lt, mul-le-mul_left, add-one, arith, leb, length, take, drop, replicate, length-replicate, lt-ltb, le-ltb}
 use Rattle.base_search.specs.Checks.{Hold}
 use Rattle.text_reader.specs.Lines.{Line, lines}

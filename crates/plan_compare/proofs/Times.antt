@@ -1,4 +1,5 @@
--- The doubled times of two accepted plans, by their curves: term by term, since of two plans the one that has let out more has as many fewer under way.
+-- The doubled times of two accepted plans, by their curves: term by term, since of two plans the
+-- one that has let out more has as many fewer under way.
 use Rattle.base_laws.proofs.Kit.{ℕ, zero, suc, ◌+◌, ◌*◌, ◌≤◌, ◌<◌, List, mul-le-mul_left, mul-lt-mul_of_pos_left, arith}
 use Rattle.text_reader.specs.Lines.{Line}
 use Rattle.base_laws.specs.Sum.{sum}

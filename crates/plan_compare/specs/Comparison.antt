@@ -1,4 +1,5 @@
--- Which of two plans is ahead: their curves of let-out volume, their order by these, and the answer of the call.
+-- Which of two plans is ahead: their curves of let-out volume, their order by these, and the answer
+-- of the call.
 use Rattle.std.specs.Prelude.{ℕ, suc, Bool, true, false, List, nat_le, Result, Ok, Err}
 use Rattle.std.proofs.Math.IntN.{sub_ℕ}
 use Rattle.text_reader.specs.Lines.{Line}
@@ -23,8 +24,8 @@ order_number Behind = 2
 order_number Equal = 3
 order_number Crossing = 4
 
--- the order of two plans, by whether the first is never fewer, and whether the second is: if a plan is not never fewer,
--- it is fewer somewhere, and there the other is more
+-- the order of two plans, by whether the first is never fewer, and whether the second is: if a plan
+-- is not never fewer, it is fewer somewhere, and there the other is more
 abbrev pub order_by : Bool → Bool → Order
 order_by true false = Ahead
 order_by false true = Behind
@@ -44,7 +45,8 @@ module _ (network : List Line) where
   unfoldable pub order : List Line → List Line → Order
   order first second = order_by (is_never_fewer first second) (is_never_fewer second first)
 
--- what a refusal of a comparison means, the network, 0, or one of the plans, 1 or 2; and the refusal
+-- what a refusal of a comparison means, the network, 0, or one of the plans, 1 or 2; and the
+-- refusal
 abbrev pub plan_number : ComparisonRefusal → ℕ
 plan_number (Network r) = 0
 plan_number (First r) = 1
@@ -55,7 +57,8 @@ refusal_in (Network r) = r
 refusal_in (First r) = r
 refusal_in (Second r) = r
 
--- two accepted plans are compared by their order and the gap, the doubled time of the first minus that of the second; a refusal of the first comes before the second's ..
+-- two accepted plans are compared by their order and the gap, the doubled time of the first minus
+-- that of the second; a refusal of the first comes before the second's ..
 unfoldable pub plans_answer : Order → Result Totals Refusal → Result Totals Refusal → Result Comparison ComparisonRefusal
 plans_answer order (Ok t) (Ok u) = Ok (record { order = order; gap = sub_ℕ t.doubled_time u.doubled_time })
 plans_answer order (Ok t) (Err r) = Err (Second r)

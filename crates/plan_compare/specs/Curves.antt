@@ -18,7 +18,8 @@ line_lets_out counts text n =
     only (nat_lt 0 (length text))
     (sum counts.links (λ i. entry (lines text) n (let_out_place counts i)))
 
--- whether the lines of one text let out no fewer than those of another up to boundary n, and the order of two texts by that
+-- whether the lines of one text let out no fewer than those of another up to boundary n, and the
+-- order of two texts by that
 unfoldable pub lines_no_fewer : Counts → List ℕ → List ℕ → ℕ → Bool
 lines_no_fewer counts one other n =
     nat_le (sum n (line_lets_out counts other)) (sum n (line_lets_out counts one))
@@ -45,7 +46,8 @@ pub record NextAsked (counts : Counts) (text : List ℕ) (so_far : LetOut) : Typ
   pub here : LetOutAt counts text boundary so_far
   pub more : boundary < counts.steps
 
--- .. and promises: from any such boundary it is read up to the next; whether it was never fewer than the other's is left
+-- .. and promises: from any such boundary it is read up to the next; whether it was never fewer
+-- than the other's is left
 pub record NextGot (counts : Counts) (text : List ℕ) (so_far next : LetOut) : Type 0 where
   pub there : (n : ℕ) → n < counts.steps → LetOutAt counts text n so_far → LetOutAt counts text (suc n) next
   pub same : next.never_fewer ≡ so_far.never_fewer

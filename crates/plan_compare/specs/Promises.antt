@@ -55,26 +55,30 @@ pub record PlansCompared (network first second : List Line) (first_size second_s
   -- the plans stand in their order and in no other
   pub stands : Stands network order first second
   pub no_other : (other : Order) → Stands network other first second → other ≡ order
-  -- where the first is ahead or equal at every boundary, its time is never the greater: it is the lesser where the first is ahead, and the same where they are equal
+  -- where the first is ahead or equal at every boundary, its time is never the greater: it is the
+  -- lesser where the first is ahead, and the same where they are equal
   pub never-greater : NeverFewer network first second → gap ≤ℤ pos 0
   pub ahead-lesser : order ≡ Ahead → gap <ℤ pos 0
   pub equal-same : order ≡ Equal → gap ≡ pos 0
   -- swapping the plans swaps ahead and behind and negates the gap
   pub swaps : compare_plans network second first second_size first_size ≡ Ok (record { order = swapped order; gap = neg_ℤ gap })
 
--- What a comparison promises of its answer: of two plans that were compared the theorem of comparing, and of a refusal that its number is one that can arise.
+-- What a comparison promises of its answer: of two plans that were compared the theorem of
+-- comparing, and of a refusal that its number is one that can arise.
 pub record ComparisonPromises (network first second : List Line) (first_size second_size : ℕ) (answer : Result Comparison ComparisonRefusal) : Type 0 where
   pub compared : (c : Comparison) → answer ≡ Ok c → PlansCompared network first second first_size second_size c.order c.gap
   pub refused-number : (r : ComparisonRefusal) → answer ≡ Err r → CanArise plan_numbers (refusal_in r).number
 
--- What it promises of the two ledgers, before and after it: the first is that of the first plan's check; the second is that of the second plan's, once the first is
--- accepted, and is untouched otherwise.
+-- What it promises of the two ledgers, before and after it: the first is that of the first plan's
+-- check; the second is that of the second plan's, once the first is accepted, and is untouched
+-- otherwise.
 pub record ComparisonLedgers (network first second : List Line) (first_before first_after second_before second_after : List ℕ) : Type 0 where
   pub first_ledger : LedgerPromises network first first_before first_after
   pub second_ledger : Hold (plan_checks network first (length first_before)) → LedgerPromises network second second_before second_after
   pub second_untouched : (Hold (plan_checks network first (length first_before)) → ⊥) → second_after ≡ second_before
 
--- what comparing two plan texts gives, whatever was handed in: the answer and both ledgers are those of the definitions
+-- what comparing two plan texts gives, whatever was handed in: the answer and both ledgers are
+-- those of the definitions
 pub record ComparisonGot (network_text first_text second_text first_old second_old : List ℕ) (answer : Result Comparison ComparisonRefusal) (first_ledger second_ledger : List ℕ) : Type 0 where
   pub answered : answer ≡ compare_plans (lines network_text) (plan_of network_text first_text) (plan_of network_text second_text) (length first_old) (length second_old)
   pub first_rows : first_ledger ≡ ledger_after (lines network_text) (plan_of network_text first_text) first_old

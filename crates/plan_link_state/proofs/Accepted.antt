@@ -1,5 +1,5 @@
--- On the ledger that the check of an accepted plan leaves, the state of every link is returned at every boundary, never
--- 21, and it is that of the plan.
+-- On the ledger that the check of an accepted plan leaves, the state of every link is returned at
+-- every boundary, never 21, and it is that of the plan.
 use Rattle.base_laws.proofs.Kit.{ℕ, suc, ◌+◌, ◌*◌, ◌-◌, ◌/◌, ◌≤◌, ◌<◌, ◌≡◌, refl, sym, ap, ◌∙◌, Bool, true, false, List, [], mul_comm, div-mul-le_self, div-le_of_le-mul, le-div_iff_mul-le, lt-div-mul-add, dec_le, arith, leb-true, ltb-true, ltb-false, le-leb, lt-leb, leb, ltb, eqb, length}
 use Rattle.base_search.specs.Checks.{Hold}
 use Rattle.base_search.proofs.Laws.{passes-of-hold}

@@ -27,8 +27,9 @@ use Rattle.std.specs.Prelude.{Result, Err, Ok}
 use Rattle.model.specs.declared.LinkState.{LinkState}
 use Rattle.base_search.specs.declared.Refusal.{Refusal}
 
--- What has arrived by a curve, before the timeline has run for the travel time, before time 0, and from then on. Before the travel time nothing has elapsed, so
--- that the end of the curve plays no part.
+-- What has arrived by a curve, before the timeline has run for the travel time, before time 0, and
+-- from then on. Before the travel time nothing has elapsed, so that the end of the curve plays no
+-- part.
 pub arrived-of : (b c : Bool) (stood seconds over x y p q start stop : ℕ) → (b ≡ true → (start ≡ stood) × (over ≡ 0)) → (b ≡ false → c ≡ true → (start ≡ x) × (stop ≡ y))
     → (b ≡ false → c ≡ false → (start ≡ p) × (stop ≡ q))
     → ◌≡◌ {A = Arrived} (record { scaled = scaled_in start stop seconds over; seconds = seconds; rises = eqb over 0 or leb start stop })

@@ -35,7 +35,8 @@ pub record OverAsked (tables : NetworkTables) (ledger : List ℕ) (n i step : �
   pub asked : ArrivedAsked tables ledger n i
   pub is-step : step ≡ arrival_step (lines tables.text.now) n i
 
--- what had entered link i by the start and by the end of the step in which its travel time before boundary n ends
+-- what had entered link i by the start and by the end of the step in which its travel time before
+-- boundary n ends
 pub record EnteredOver (network : List Line) (ledger : List ℕ) (n i : ℕ) (arrival : Arrival) : Type 0 where
   pub by-start : timeline_time network (on_timeline network n) < travel_time network i → arrival.start ≡ standing network i
   pub by-past : time network n < travel_time network i → travel_time network i ≤ timeline_time network (on_timeline network n)
@@ -63,7 +64,8 @@ state_from entered left arrived =
     (entered - arrived.scaled / arrived.seconds))
     else Err (refusal 21 0 0)
 
--- The state of link i, from 0, at a boundary, by a plan: what is queued is the most that has arrived and not left, and the rest of what the link holds is in transit.
+-- The state of link i, from 0, at a boundary, by a plan: what is queued is the most that has
+-- arrived and not left, and the rest of what the link holds is in transit.
 pub record PlanState (network plan : List Line) (boundary i : ℕ) (answer : Result LinkState Refusal) : Type 0 where
   pub queued : ℕ
   pub in-transit : ℕ
@@ -72,7 +74,8 @@ pub record PlanState (network plan : List Line) (boundary i : ℕ) (answer : Res
   pub no_more : has_arrived network plan (left network plan boundary i + queued + 1) boundary i ≡ false
   pub whole : queued + in-transit ≡ held network plan boundary i
 
--- On the ledger that the check of an accepted plan leaves, whatever the ledger held before, the state of every link is told at every boundary, and it is that of the plan.
+-- On the ledger that the check of an accepted plan leaves, whatever the ledger held before, the
+-- state of every link is told at every boundary, and it is that of the plan.
 abbrev pub PlanStates : List Line → List ℕ → ℕ → ℕ → Result LinkState Refusal → Type 0
 PlanStates network ledger boundary link answer =
     (plan : List Line) (before : List ℕ) → Hold (plan_checks network plan (length before)) → ledger ≡ ledger_after network plan before

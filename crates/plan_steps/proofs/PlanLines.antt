@@ -1,4 +1,5 @@
--- The `P` line of a step that was read, or made where the plan's text is empty, is that of the plan which the text means.
+-- The `P` line of a step that was read, or made where the plan's text is empty, is that of the plan
+-- which the text means.
 use Rattle.base_laws.proofs.Kit.{ℕ, suc, ◌+◌, ◌*◌, ◌-◌, ◌^◌, ◌≤◌, ◌<◌, ◌≡◌, sym, ap, ◌∙◌, true, false, List, dec_lt, arith, eq-eqb, eqb, length, get_or}
 use Rattle.text_reader.specs.Lines.{Line, lines}
 use Rattle.text_reader.specs.Reading.{Starts, at_end}

@@ -27,7 +27,8 @@ pub record LineAsked (signals : List Signal) (counts : Counts) (line : List ℕ)
   pub ready : AllReady signals counts.signals
   pub size : length line ≡ line_size
 
--- .. and promises: a text that has bytes is read; an empty one has the signals keep their phases, and leaves the volumes as they were
+-- .. and promises: a text that has bytes is read; an empty one has the signals keep their phases,
+-- and leaves the volumes as they were
 pub record LineGot (plan_text : List ℕ) (at : ℕ) (signals : List Signal) (counts : Counts) (before : List ℕ) (result : Option ℕ) (line : List ℕ) : Type 0 where
   pub size : length line ≡ length before
   pub read : 0 < length plan_text → RowRead letter_p (plan_width counts) plan_text at before result line

@@ -36,7 +36,8 @@ pub record Cleared (said : Lines) : Type 0 where
   pub phases-size : length said.phases ≡ max_signals
   pub no-number : (k : ℕ) → slice_index said.plan k ≡ 0
 
--- what a step's lines say, as it is lent from step to step: where the plan's text is empty, no volume is in it
+-- what a step's lines say, as it is lent from step to step: where the plan's text is empty, no
+-- volume is in it
 pub record LinesLent (network_text plan_text : List ℕ) (lent : Lines) : Type 0 where
   pub step-size : length lent.step ≡ step_size
   pub plan-size : length lent.plan ≡ line_size
@@ -53,7 +54,8 @@ pub record ReadAsked (run : Run) (place : Place) (signals : List Signal) (said :
   pub signals-at : SignalsAt (lines run.tables.now.text.now) (plan_of run.tables.now.text.now run.plan.now) place.boundary signals
   pub lent : LinesLent run.tables.now.text.now run.plan.now said
 
--- .. and promises: a `P` line of its form is read with all that the lines say, and the place is behind them
+-- .. and promises: a `P` line of its form is read with all that the lines say, and the place is
+-- behind them
 pub record LinesRead (network_text plan_text : List ℕ) (place next : Place) (read : Lines) : Type 0 where
   pub is-formed : formed (lines network_text) (plan_of network_text plan_text) place.boundary ≡ true
   pub step-numbers : StepNumbers (lines network_text) place.boundary read.step

@@ -27,8 +27,9 @@ use Rattle.plan_steps.specs.declared.Run.{Run}
 use Rattle.plan_steps.specs.Totals.{held_in, totals_after, TotalsAsked}
 use Rattle.plan_steps.specs.Reading.{Tables, PlaceAt, LinesLent}
 
--- The state at a boundary: the steps before it have passed, the lines of the next start at its place, its signals and totals and those who wait are the model's, and
--- the ledger has the rows up to the boundary.
+-- The state at a boundary: the steps before it have passed, the lines of the next start at its
+-- place, its signals and totals and those who wait are the model's, and the ledger has the rows up
+-- to the boundary.
 pub record StateAt (network_text plan_text : List ℕ) (state : State) (signals : List Signal) (arrivals : List Arrival) (waiting ledger : List ℕ) : Type 0 where
   pub within : state.place.boundary ≤ step_count (lines network_text)
   pub passed : (m : ℕ) → m < state.place.boundary → verdict (line_checks (lines network_text) (plan_of network_text plan_text) m) ≡ Ok tt
@@ -64,7 +65,8 @@ pub record NextAsked (state : State) (said : Lines) (counts : Counts) (signals :
   pub advance-asked : AdvanceAsked signals counts.signals said.phases said.asked (length_in said.step)
   pub totals-asked : (after : List ℕ) → Waits counts said.step said.plan counts.links after → TotalsAsked state.totals state.outside (sum counts.links (waiting_in after)) counts said.plan said.step
 
--- .. and promises: those who wait, the signals, and the state, which has the place of the next lines already
+-- .. and promises: those who wait, the signals, and the state, which has the place of the next
+-- lines already
 pub record NextGot (state : State) (said : Lines) (counts : Counts) (before signals : List Signal) (waiting : List ℕ) (next : State) : Type 0 where
   pub stay : Waits counts said.step said.plan counts.links waiting
   pub advanced : Advanced before counts.signals said.phases said.asked (length_in said.step) signals
@@ -81,7 +83,8 @@ pub record StepAsked (run : Run) (state : State) (signals : List Signal) (arriva
   pub lent : LinesLent run.tables.now.text.now run.plan.now said
   pub room : 2 * suc (suc state.place.boundary) * link_count (lines run.tables.now.text.now) ≤ length ledger
 
--- .. and promises: a step that is refused leaves the ledger as it was; one that passes reaches the next state, and the ledger has one row more
+-- .. and promises: a step that is refused leaves the ledger as it was; one that passes reaches the
+-- next state, and the ledger has one row more
 pub record StepRefused (network_text plan_text old : List ℕ) (state : State) (r : Refusal) (ledger : List ℕ) : Type 0 where
   pub told : verdict (line_checks (lines network_text) (plan_of network_text plan_text) state.place.boundary) ≡ Err r
   pub kept : ledger ≡ old

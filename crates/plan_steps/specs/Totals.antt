@@ -10,7 +10,8 @@ use Rattle.network_tables.specs.Fields.{line_size, step_size, length_in, admitte
 abbrev pub held_in : Counts → List ℕ → ℕ
 held_in counts row = sum counts.links (λ i. entered_in row i - left_in row i)
 
--- the vehicles in the network after the step that a line is of: those before, those admitted, without those let out
+-- the vehicles in the network after the step that a line is of: those before, those admitted,
+-- without those let out
 abbrev pub inside_after : Totals → Counts → List ℕ → ℕ
 inside_after t counts line = t.inside + sum counts.links (admitted_in counts line) - sum counts.links (let_out_in counts line)
 
@@ -24,7 +25,8 @@ totals_after t before after counts line step =
       doubled_time = t.doubled_time + length_in step * (t.inside + before + (inside_after t counts line + after));
     }
 
--- what adding a step to the totals requires: their sums fit 64 bits, and no more leave than there are
+-- what adding a step to the totals requires: their sums fit 64 bits, and no more leave than there
+-- are
 pub record TotalsAsked (t : Totals) (before after : ℕ) (counts : Counts) (line step : List ℕ) : Type 0 where
   pub few : Few counts
   pub line-size : length line ≡ line_size

@@ -1,4 +1,5 @@
--- What holds of an answer holds of the answer that its result is read as, since no refusal has the number 0.
+-- What holds of an answer holds of the answer that its result is read as, since no refusal has the
+-- number 0.
 use Rattle.base_laws.proofs.Kit.{ℕ, ◌≡◌, refl, sym, subst, false, List, arith, ne_eqb, eqb}
 use Rattle.base_search.specs.declared.Refusal.{Refusal}
 use Rattle.base_search.specs.Numbers.{CanArise}

@@ -1,4 +1,5 @@
--- The numbers that the C library gives for each answer: a refusal's number, line and item, or number 0 and the values.
+-- The numbers that the C library gives for each answer: a refusal's number, line and item, or
+-- number 0 and the values.
 use Rattle.std.specs.Prelude.{ℕ, if◌then◌else◌, List, ◌≡◌, ◌≢◌, ◌==◌, pos, Result, Ok, Err}
 use Rattle.base_search.specs.Checks.{refusal, Checks, Hold, Verdict}
 use Rattle.base_search.specs.Numbers.{CanArise}
@@ -25,7 +26,8 @@ use Rattle.model.specs.declared.LinkState.{LinkState}
 use Rattle.base_search.specs.declared.Refusal.{Refusal}
 use Rattle.model.specs.declared.Totals.{Totals}
 
--- What a C caller reads off a result's number: 0 exactly where every check of the call holds, else one of the numbers with which the call refuses.
+-- What a C caller reads off a result's number: 0 exactly where every check of the call holds, else
+-- one of the numbers with which the call refuses.
 pub record NumberTells (checks : Checks) (numbers : List ℕ) (number : ℕ) : Type 0 where
   pub zero-holds : number ≡ 0 → Hold checks
   pub holds-zero : Hold checks → number ≡ 0
@@ -122,7 +124,8 @@ comparison_result (Err refused) =
     let r = refusal_in refused in
     record { number = r.number; line = r.line; item = r.item; plan = plan_number refused; order = 0; gap = pos 0 }
 
--- the answer that a C caller reads off: number 0 is two plans that were compared, any other a refusal
+-- the answer that a C caller reads off: number 0 is two plans that were compared, any other a
+-- refusal
 abbrev pub comparison_answer_of : ComparisonResult → Result Comparison ComparisonRefusal
 comparison_answer_of r =
     if r.number == 0

@@ -1,5 +1,6 @@
-// The C library: the calls over slices, each a pointer and a length, with answers by value. include/plancheck.h declares them.
-// Each answer is a flat struct that begins with the same three numbers, as C has it, so that each conversion copies those of a refusal by itself.
+// The C library: the calls over slices, each a pointer and a length, with answers by value.
+// include/plancheck.h declares them. Each answer is a flat struct that begins with the same three
+// numbers, as C has it, so that each conversion copies those of a refusal by itself.
 #![tactic(auto)]
 
 ghost use Rattle.std.specs.Prelude.{◌≡◌, length};
@@ -41,7 +42,8 @@ use model::{LinkState, Totals};
 use model_split::Lengths;
 use plan_compare::{Comparison, ComparisonRefusal};
 
-// The answer of a network's check or of a step of vehicles; number 0: the network is valid, the vehicles have moved.
+/// The answer of a network's check or of a step of vehicles; number 0: the network is valid, the
+/// vehicles have moved.
 #[repr(C)]
 #[derive(Clone, Copy, Default)]
 pub struct NetworkResult {
@@ -65,7 +67,7 @@ impl From<Result<(), Refusal>> for NetworkResult {
     }
 }
 
-// What a network has; number 0: it is valid, with these counts.
+/// What a network has; number 0: it is valid, with these counts.
 #[repr(C)]
 #[derive(Clone, Copy)]
 pub struct CountsResult {
@@ -80,7 +82,7 @@ pub struct CountsResult {
     pub past: u32,
 }
 
-// The version of the calls, of their answers and of the texts.
+/// The version of the calls, of their answers and of the texts.
 #[repr(C)]
 #[derive(Clone, Copy)]
 pub struct VersionResult {
@@ -89,7 +91,7 @@ pub struct VersionResult {
     pub patch: u32,
 }
 
-// The answer of a plan's check; number 0: the plan is accepted, with these totals.
+/// The answer of a plan's check; number 0: the plan is accepted, with these totals.
 #[repr(C)]
 #[derive(Clone, Copy, Default)]
 pub struct PlanResult {
@@ -124,7 +126,7 @@ impl From<Result<Totals, Refusal>> for PlanResult {
     }
 }
 
-// The state of a link; number 0: the link holds these volumes.
+/// The state of a link; number 0: the link holds these volumes.
 #[repr(C)]
 #[derive(Clone, Copy, Default)]
 pub struct LinkResult {
@@ -155,7 +157,7 @@ impl From<Result<LinkState, Refusal>> for LinkResult {
     }
 }
 
-// The answer of a call that writes a text; number 0: it is written, so many bytes.
+/// The answer of a call that writes a text; number 0: it is written, so many bytes.
 #[repr(C)]
 #[derive(Clone, Copy, Default)]
 pub struct TextResult {
@@ -184,7 +186,8 @@ impl From<Result<usize, Refusal>> for TextResult {
     }
 }
 
-// The answer of a run of cells; number 0: so many cells, these totals, and the volumes after the last step, 0 past the cells.
+/// The answer of a run of cells; number 0: so many cells, these totals, and the volumes after the
+/// last step, 0 past the cells.
 #[repr(C)]
 #[derive(Clone, Copy, Default)]
 pub struct CellsResult {
@@ -203,7 +206,8 @@ impl From<Result<CellsRun, Refusal>> for CellsResult {
     fn from(answer: Result<CellsRun, Refusal>) -> CellsResult {
         match answer {
             Ok(run) => {
-                // A variable of its own: the prover does not take an array directly out of another struct.
+                // A variable of its own: the prover does not take an array directly out of another
+                // struct.
                 let volumes = run.volumes;
                 CellsResult {
                     cells: run.cells,
@@ -224,9 +228,9 @@ impl From<Result<CellsRun, Refusal>> for CellsResult {
     }
 }
 
-// The answer of a comparison of two plans; number 0: both are accepted, the first is ahead (order 1), behind (2), equal
-// (3) or crossing (4), and `gap` is its doubled time minus the second's. Otherwise `plan` is the plan that is refused,
-// 0 for the network.
+/// The answer of a comparison of two plans; number 0: both are accepted, the first is ahead (order
+/// 1), behind (2), equal (3) or crossing (4), and `gap` is its doubled time minus the second's.
+/// Otherwise `plan` is the plan that is refused, 0 for the network.
 #[repr(C)]
 #[derive(Clone, Copy, Default)]
 pub struct ComparisonResult {
@@ -262,7 +266,7 @@ impl From<Result<Comparison, ComparisonRefusal>> for ComparisonResult {
     }
 }
 
-// The answer of a split; number 0: the four texts are written, so many bytes each.
+/// The answer of a split; number 0: the four texts are written, so many bytes each.
 #[repr(C)]
 #[derive(Clone, Copy, Default)]
 pub struct SplitResult {
@@ -297,6 +301,7 @@ impl From<Result<Lengths, Refusal>> for SplitResult {
     }
 }
 
+/// Judges a network: 1 to 6, 28 and 30.
 #[unsafe(no_mangle)]
 pub extern "C" fn plancheck_check_network(network: &[u8]) -> NetworkResult
     ensures value { result ≡ verdict_result (check_network (lines network.now)) }
@@ -308,14 +313,16 @@ pub extern "C" fn plancheck_check_network(network: &[u8]) -> NetworkResult
     network::check_network(network).into()
 }
 
+/// How many links, signals, movements, steps, trams and past steps a valid network has.
 #[unsafe(no_mangle)]
 pub extern "C" fn plancheck_network_counts(network: &[u8]) -> CountsResult
     ensures value { result ≡ counts_result (count_network (lines network.now)) }
     ensures number_tells { NumberTells (network_checks (lines network.now)) network_numbers result.number }
     ensures padding_ignored { PaddingIgnored network.now (λ padded. result ≡ counts_result (count_network (lines padded))) }
 {
-    // Not a `From`: that can have no precondition on the counts, which fit by the promise of `count_network`. Not
-    // `..CountsResult::default()` either: the proof of the two returns needs whole literals.
+    // Not a `From`: that can have no precondition on the counts, which fit by the promise of
+    // `count_network`. Not `..CountsResult::default()` either: the proof of the two returns needs
+    // whole literals.
     match network::count_network(network) {
         Ok(counts) => CountsResult {
             number: 0,
@@ -342,6 +349,7 @@ pub extern "C" fn plancheck_network_counts(network: &[u8]) -> CountsResult
     }
 }
 
+/// The version of the library.
 #[unsafe(no_mangle)]
 pub extern "C" fn plancheck_version() -> VersionResult
     ensures { result ≡ version }
@@ -353,6 +361,7 @@ pub extern "C" fn plancheck_version() -> VersionResult
     }
 }
 
+/// Judges a plan on a network, and writes the rows of the ledger for the steps that pass.
 #[unsafe(no_mangle)]
 pub extern "C" fn plancheck_check_plan(
     network: &[u8],
@@ -369,6 +378,7 @@ pub extern "C" fn plancheck_check_plan(
     plan_check::check_plan(network, plan, ledger).into()
 }
 
+/// Judges a plan, and whether it keeps a fixed-time sheet.
 #[unsafe(no_mangle)]
 pub extern "C" fn plancheck_check_sheet(
     network: &[u8],
@@ -384,6 +394,7 @@ pub extern "C" fn plancheck_check_sheet(
     sheet_check::check_sheet(network, plan, sheet, ledger).into()
 }
 
+/// Writes a plan for a sheet with offsets.
 #[unsafe(no_mangle)]
 pub extern "C" fn plancheck_plan_from_sheet(
     network: &[u8],
@@ -398,6 +409,7 @@ pub extern "C" fn plancheck_plan_from_sheet(
     sheet_writer::plan_from_sheet(network, sheet, plan).into()
 }
 
+/// What is queued and in transit on a link at a boundary; boundary 0 is time 0, link 1 the first.
 #[unsafe(no_mangle)]
 pub extern "C" fn plancheck_link_state(
     network: &[u8],
@@ -414,6 +426,7 @@ pub extern "C" fn plancheck_link_state(
     plan_link_state::link_state(network, ledger, boundary, link).into()
 }
 
+/// Writes the plan of a solver's listing.
 #[unsafe(no_mangle)]
 pub extern "C" fn plancheck_plan_from_listing(
     network: &[u8],
@@ -428,6 +441,7 @@ pub extern "C" fn plancheck_plan_from_listing(
     listing_call::plan_from_listing(network, listing, plan).into()
 }
 
+/// Writes the network from a boundary on, after a plan has run up to it.
 #[unsafe(no_mangle)]
 pub extern "C" fn plancheck_carry_on(
     network: &[u8],
@@ -444,6 +458,7 @@ pub extern "C" fn plancheck_carry_on(
     carry::carry_on(network, boundary, plan, ledger, carried).into()
 }
 
+/// Which of two plans is ahead, and the gap of their doubled travel times.
 #[unsafe(no_mangle)]
 pub extern "C" fn plancheck_compare_plans(
     network: &[u8],
@@ -463,6 +478,7 @@ pub extern "C" fn plancheck_compare_plans(
     plan_compare::compare_plans(network, first, second, first_ledger, second_ledger).into()
 }
 
+/// Writes the networks and plans of two halves; bit i - 1 of `first_half` is for link i.
 #[unsafe(no_mangle)]
 pub extern "C" fn plancheck_split(
     network: &[u8],
@@ -484,6 +500,7 @@ pub extern "C" fn plancheck_split(
     .into()
 }
 
+/// Moves vehicles along a street for one step.
 #[unsafe(no_mangle)]
 pub extern "C" fn plancheck_step_vehicles(
     places: &mut [f64],
@@ -499,6 +516,7 @@ pub extern "C" fn plancheck_step_vehicles(
     traces::step_vehicles(places, advances, red_lines, spacing).into()
 }
 
+/// Runs a corridor in cells.
 #[unsafe(no_mangle)]
 pub extern "C" fn plancheck_run_cells(corridor: &[u8]) -> CellsResult
     ensures value { result ≡ cells_result (run_cells (lines corridor.now)) (final_volumes (lines corridor.now)) }

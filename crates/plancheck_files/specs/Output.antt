@@ -2,7 +2,8 @@
 use Rattle.std.specs.Prelude.{ℕ, List, Option, Some, None}
 use Rattle.model.specs.Report.{report, not_read}
 
--- `L 1` where the network was not read; else `L 2` where the plan was not; else the report of the two texts
+-- `L 1` where the network was not read; else `L 2` where the plan was not; else the report of the
+-- two texts
 abbrev pub output : Option (List ℕ) → Option (List ℕ) → List ℕ
 output None plan = not_read 1
 output (Some network) None = not_read 2

@@ -1,5 +1,6 @@
-// Reads a whole file into a lent buffer. Nothing can say what a file holds, or when reading it ends in an error. Of a reader whose bytes are known it is promised
-// that all of them are handed out, or that they fill the buffer; of any other only that what is handed out leaves a byte of the buffer.
+// Reads a whole file into a lent buffer. Nothing can say what a file holds, or when reading it ends
+// in an error. Of a reader whose bytes are known it is promised that all of them are handed out, or
+// that they fill the buffer; of any other only that what is handed out leaves a byte of the buffer.
 #![tactic(auto)]
 
 ghost use Rattle.std.specs.Prelude.{◌≤◌, ◌<◌, length, IfOk, IfSome, IsNone};
@@ -10,8 +11,8 @@ use std::io;
 use std::io::Read;
 use std::rt::Files;
 
-// Reads an open file to its end, and returns what it holds; None if that fills the buffer: then its end was not reached.
-// An error is the file's.
+/// Reads an open file to its end, and returns what it holds; None if that fills the buffer: then its
+/// end was not reached. An error is the file's.
 pub fn read_open<'a, R: Read>(file: &mut R, buffer: &'a mut [u8]) -> io::Result<Option<&'a [u8]>>
     ensures within { IfOk result (λ read. IfSome read (λ text. length text.now < length buffer.old)) }
     ensures whole { IfOk result (λ read. IfSome read (λ text. IsWhole (R.remaining file.old) text.now)) }
@@ -29,8 +30,8 @@ pub fn read_open<'a, R: Read>(file: &mut R, buffer: &'a mut [u8]) -> io::Result<
     Ok(None)
 }
 
-// Reads the file at a path, and returns what it holds; None if that fills the buffer. An error is that of opening or of
-// reading it.
+/// Reads the file at a path, and returns what it holds; None if that fills the buffer. An error is
+/// that of opening or of reading it.
 pub fn read_file<'a>(
     files: &impl Files,
     path: &str,

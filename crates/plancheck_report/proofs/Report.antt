@@ -1,4 +1,5 @@
--- A plan's answer and its ledger tell the whole report: a ledger of 5,808 numbers is long enough for every network, so that refusal 8 can't come.
+-- A plan's answer and its ledger tell the whole report: a ledger of 5,808 numbers is long enough
+-- for every network, so that refusal 8 can't come.
 use Rattle.base_laws.proofs.Kit.{ℕ, suc, ◌*◌, ◌≤◌, ◌≡◌, refl, ap, ap₂, ◌∙◌, List, ◌++◌, mul-le-mul, arith, le-leb, length}
 use Rattle.base_search.specs.declared.Refusal.{Refusal}
 use Rattle.base_search.specs.Checks.{◌then◌, or_else, verdict, Hold, Verdict}

@@ -8,7 +8,8 @@ use Rattle.plancheck_report.specs.declared.InputFile.{InputFile}
 use Rattle.plancheck_report.specs.declared.InputFile.TheVariants.{Network, Plan}
 use Rattle.plancheck_report.specs.Boundaries.{boundary_texts}
 
--- an `A` record has at most 86 bytes: the letter, the line feed, and four numbers of at most 20 digits, a tab before each
+-- an `A` record has at most 86 bytes: the letter, the line feed, and four numbers of at most 20
+-- digits, a tab before each
 abbrev pub totals_size : ℕ
 totals_size = 86
 

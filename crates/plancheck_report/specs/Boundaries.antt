@@ -1,4 +1,5 @@
--- The `B` records of an accepted plan, as its rows stand in a ledger, and what their writing requires.
+-- The `B` records of an accepted plan, as its rows stand in a ledger, and what their writing
+-- requires.
 use Rattle.std.specs.Prelude.{ℕ, suc, ◌+◌, ◌-◌, ◌*◌, ◌≤◌, ◌≡◌, List, ◌∷◌, length, take, drop, slice_index}
 use Rattle.text_writer.specs.Records.{record_texts}
 use Rattle.model.specs.Network.{max_steps}
@@ -27,7 +28,8 @@ pub record TimeAsked (counts : Counts) (times : List ℕ) (n : ℕ) : Type 0 whe
 abbrev pub boundary_texts : Counts → List ℕ → List ℕ → List ℕ
 boundary_texts counts times ledger = record_texts 66 (suc counts.steps) (ledger_numbers counts.links (plan_time counts times) ledger)
 
--- a `B` record has at most 1,052 bytes: the letter, the line feed, and 50 numbers of at most 20 digits, a tab before each
+-- a `B` record has at most 1,052 bytes: the letter, the line feed, and 50 numbers of at most 20
+-- digits, a tab before each
 pub record RowsAsked (out : List ℕ) (at : ℕ) (counts : Counts) (times ledger : List ℕ) : Type 0 where
   pub few : Few counts
   pub timed : (n : ℕ) → n ≤ counts.steps → TimeAsked counts times n

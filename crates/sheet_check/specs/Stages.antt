@@ -33,7 +33,8 @@ pub record PassAsked (plan_text : List ℕ) (tables : NetworkTables) (table : Li
   pub widths : (r : ℕ) → r < max_signals → length (line_in table r) ≡ sheet_fields
   pub lawful : Lawful tables.text.now plan_text
 
--- how far the pass is: the lines of the next step start at this place, and the signals are those at the boundary
+-- how far the pass is: the lines of the next step start at this place, and the signals are those at
+-- the boundary
 pub record PassAt (network_text plan_text : List ℕ) (pass : Pass) (signals : List Signal) : Type 0 where
   pub within : pass.place.boundary ≤ step_count (lines network_text)
   pub time-is : pass.time ≡ time (lines network_text) pass.place.boundary

@@ -1,5 +1,5 @@
--- What is watched of each signal in the pass over the steps of an accepted plan: the numbers of 34, by the program's
--- tables.
+-- What is watched of each signal in the pass over the steps of an accepted plan: the numbers of 34,
+-- by the program's tables.
 use Rattle.std.specs.Prelude.{ℕ, ◌+◌, ◌-◌, ◌≤◌, ◌<◌, ◌≡◌, false, if◌then◌else◌, not, List, nat_le, ◌==◌, length, slice_index, slice_index_or}
 use Rattle.text_reader.specs.Lines.{Line}
 use Rattle.model.specs.declared.Signal.{Signal}
@@ -19,12 +19,14 @@ no_watch = record { tested = false; line = 0; broken = 0 }
 abbrev pub watch_in : List Watch → ℕ → Watch
 watch_in watches r = slice_index_or watches r no_watch
 
--- the line of the first broken run after a run of so many seconds has ended, whose duration is so many
+-- the line of the first broken run after a run of so many seconds has ended, whose duration is so
+-- many
 unfoldable pub first_broken : Watch → ℕ → ℕ → ℕ
 first_broken w seconds lasts =
     if w.broken == 0 then if w.tested and not (seconds == lasts) then w.line else 0 else w.broken
 
--- after an ordinary step, at a line, that starts at time t and shows q, of a signal that is s before it; the phase that s shows lasts so many seconds
+-- after an ordinary step, at a line, that starts at time t and shows q, of a signal that is s
+-- before it; the phase that s shows lasts so many seconds
 unfoldable pub watch_after : Watch → Signal → ℕ → ℕ → ℕ → ℕ → Watch
 watch_after w s q line t lasts =
     if q == s.shown

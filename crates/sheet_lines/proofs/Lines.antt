@@ -1,4 +1,5 @@
--- The lines of a sheet, read and judged one after another: one law for each way through a turn of a loop.
+-- The lines of a sheet, read and judged one after another: one law for each way through a turn of a
+-- loop.
 use Rattle.base_laws.proofs.Kit.{ℕ, zero, suc, ◌+◌, ◌*◌, ◌≤◌, ◌<◌, ◌≡◌, refl, sym, ap, ap₂, ◌∙◌, Bool, true, false, not, ◌⊎◌, inl, inr, List, [], ◌++◌, ℕ_discrete, add-one, eq-or-lt_of_le, arith, leb-true, leb, ltb, eqb, length, take, drop, length-take, get_or, get_or-take, set, length-set, get_or-set_same, get_or-set_other}
 use Rattle.base_search.specs.declared.Refusal.{Refusal}
 use Rattle.base_search.specs.Checks.{refusal, Checks, Verdict, or_else, checked, verdict}

@@ -1,5 +1,6 @@
--- A fixed-time sheet: line r is that of signal r, `F` and one duration a phase; to write a plan the offset after them, the
--- seconds of the cycle, phase 1 first, that have run at time 0. Signals are counted from 0 here, phases from 1.
+-- A fixed-time sheet: line r is that of signal r, `F` and one duration a phase; to write a plan the
+-- offset after them, the seconds of the cycle, phase 1 first, that have run at time 0. Signals are
+-- counted from 0 here, phases from 1.
 use Rattle.std.specs.Prelude.{ℕ, zero, suc, ◌+◌, ◌-◌, Bool, true, List, nat_lt, ◌==◌, length, slice_index}
 use Rattle.base_search.specs.Checks.{Checks, check, each, ◌then◌}
 use Rattle.text_reader.specs.Lines.{Line}
@@ -37,7 +38,8 @@ end_of sheet r k = sum k (entry sheet r)
 abbrev pub phases_of : List Line → ℕ → ℕ
 phases_of network r = (signal network r).phases
 
--- 33 of a sheet for so many signals, line by line; its lines have so many offsets: none to check a plan, one to write a plan
+-- 33 of a sheet for so many signals, line by line; its lines have so many offsets: none to check a
+-- plan, one to write a plan
 module _ (signals : ℕ → Signal) (count : ℕ) (sheet : List Line) (offsets : ℕ) where
   unfoldable pub sheet_line_checks : ℕ → Checks
   sheet_line_checks r =

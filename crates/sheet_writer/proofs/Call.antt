@@ -1,4 +1,5 @@
--- Where the tables hold a network's and a sheet's numbers, what is judged and written by them is what the definition says.
+-- Where the tables hold a network's and a sheet's numbers, what is judged and written by them is
+-- what the definition says.
 use Rattle.base_laws.proofs.Kit.{ℕ, zero, suc, ◌+◌, ◌*◌, ◌-◌, ◌%◌, ◌^◌, ◌≤◌, ◌<◌, ◌≡◌, refl, sym, ap, ap₂, ◌∙◌, cond, not, List, add-one, dec_lt, arith, le-ltb, leb, ltb, eqb, length, take, drop, length-take-le, get_or-take, length-drop, replicate, length-replicate, get_or, get_or-drop}
 use Rattle.base_search.specs.declared.Refusal.{Refusal}
 use Rattle.base_search.specs.Checks.{check, each, or_else, checked, verdict, Hold, Verdict}

@@ -1,4 +1,5 @@
--- The masks of one signal, step by step, and those of all signals: one law for each way through a turn.
+-- The masks of one signal, step by step, and those of all signals: one law for each way through a
+-- turn.
 use Rattle.base_laws.proofs.Kit.{ℕ, zero, suc, ◌+◌, ◌-◌, ◌^◌, ◌≤◌, ◌<◌, ◌≡◌, refl, sym, ap, ap₂, ◌∙◌, Bool, true, false, not, ◌&&◌, and-true, ◌⊎◌, inl, inr, ◌≢◌, List}
 use Rattle.base_laws.proofs.Kit.{[], ◌∷◌, ℕ_discrete, add-one, eq-or-lt_of_le, arith, pow-le-pow_right, le-leb, lt-leb, eqb, length, take, take-suc, take_all, get_or, set, set-get_or, length-set, get_or-set_same, get_or-set_other}
 use Rattle.base_search.specs.declared.Refusal.{Refusal}

@@ -1,4 +1,5 @@
--- The run of a cycle, from its offset on and from step to step: one law for each way through a turn.
+-- The run of a cycle, from its offset on and from step to step: one law for each way through a
+-- turn.
 use Rattle.base_laws.proofs.Kit.{ℕ, suc, ◌+◌, ◌-◌, ◌%◌, ◌≤◌, ◌<◌, ◌≡◌, sym, ap, ◌∙◌, ◌⊎◌, inl, inr, ◌≢◌, add-one, mod-eq_of_lt, dec_le, arith, le-leb, lt-leb, eq-eqb, ne_eqb, leb}
 use Rattle.base_laws.specs.Sum.{sum}
 use Rattle.model.specs.Signals.{phase_after}

@@ -1,5 +1,5 @@
-// Writes a plan for a fixed-time sheet with offsets: the call `plan_from_sheet`. The phase that a signal's cycle
-// shows goes from step to step, without a remainder.
+// Writes a plan for a fixed-time sheet with offsets: the call `plan_from_sheet`. The phase that a
+// signal's cycle shows goes from step to step, without a remainder.
 #![tactic(auto)]
 
 ghost use Rattle.std.specs.Prelude.{◌≡◌, ◌≤◌, length};
@@ -21,18 +21,20 @@ use network_tables::{Counts, LINE_SIZE, MAX_SIGNALS, MAX_STEPS, MAX_TRAMS, Netwo
 use network_writer::Output;
 use sheet_lines::{SHEET_FIELDS, SheetLine};
 
-// The masks of a step, a byte for each signal, which has at most eight phases: as numbers of a line the masks of all steps took 2,880 bytes more of stack.
+/// The masks of a step, a byte for each signal, which has at most eight phases: as numbers of a line
+/// the masks of all steps took 2,880 bytes more of stack.
 pub type Masks = [u8; MAX_SIGNALS];
 
-// The run of a cycle that shows: its phase, and the seconds for which it still shows.
+/// The run of a cycle that shows: its phase, and the seconds for which it still shows.
 #[derive(Clone, Copy)]
 pub struct Run {
     pub phase: u32,
     pub remaining: u32,
 }
 
-// The cycle of a signal of so many phases, by its line of a sheet that has passed. The offset stays in the line, after
-// the durations, as in the definitions (`CycleLine`, `phase_at`): two fields would be joined again in every contract.
+// The cycle of a signal of so many phases, by its line of a sheet that has passed. The offset stays
+// in the line, after the durations, as in the definitions (`CycleLine`, `phase_at`): two fields
+// would be joined again in every contract.
 #[derive(Clone, Copy)]
 struct Cycle<'a> {
     line: &'a [u32],
@@ -60,7 +62,8 @@ impl Cycle<'_> {
         }
     }
 
-    // The run after a step that fits it: either it goes on, or it ends with the step and the next phase begins.
+    // The run after a step that fits it: either it goes on, or it ends with the step and the next
+    // phase begins.
     fn next_run(&self, run: Run, seconds: u32) -> Run
         requires { NextAsked self.now.phases run seconds }
         ensures { NextRun (number_in self.now.line.now) self.now.phases run seconds result }
@@ -79,7 +82,8 @@ impl Cycle<'_> {
         }
     }
 
-    // Fills the column of masks of signal `r`, whose cycle it is; none if a run ends inside a step (refusal 35).
+    // Fills the column of masks of signal `r`, whose cycle it is; none if a run ends inside a step
+    // (refusal 35).
     fn fill_column(&self, times: &[u32], r: usize, masks: &mut [Masks]) -> Option<()>
         requires { ColumnAsked times.now r masks.old }
         ensures { ColumnGot (number_in self.now.line.now) self.now.phases times.now r masks.old result masks.new }
@@ -107,8 +111,8 @@ fn has_no_tram(trams: &[Tram], r: usize) -> bool
     trams.iter().all(|tram| tram.signal as usize != r + 1)
 }
 
-// Fills the masks of all steps. Refusal 35, by rising signal: a signal with tram lines, or with a run that ends before
-// the horizon but on no boundary.
+// Fills the masks of all steps. Refusal 35, by rising signal: a signal with tram lines, or with a
+// run that ends before the horizon but on no boundary.
 fn fill_masks(
     trams: &[Tram],
     signals: &[Signal],
@@ -143,8 +147,8 @@ fn set_masks(shown: &[u8], line: &mut [u32])
     }
 }
 
-// Puts a plan's text at the beginning of a buffer: its lines as far as they fit; returns its length. From line to line only the masks of a line change: its
-// volumes are 0.
+// Puts a plan's text at the beginning of a buffer: its lines as far as they fit; returns its
+// length. From line to line only the masks of a line change: its volumes are 0.
 fn put_masks(masks: &[Masks], counts: Counts, out: &mut [u8]) -> usize
     requires { LinesAsked masks.now counts }
     ensures { PutWhole (mask_lines masks.now counts) out.old out.new result }
@@ -171,7 +175,8 @@ fn write_masks(masks: &[Masks], counts: Counts, out: &mut [u8]) -> Result<usize,
     network_writer::write_measured(Reason::PlanRoom, out, put)
 }
 
-// Writes the plan of a sheet on a network that has passed, whose `T` lines are read again: refusals 33, 35 and 24.
+// Writes the plan of a sheet on a network that has passed, whose `T` lines are read again: refusals
+// 33, 35 and 24.
 fn write_on_network(
     tables: &NetworkTables,
     signals: &[Signal],
@@ -194,7 +199,7 @@ fn write_on_network(
     write_masks(masks, counts, out)
 }
 
-// The plan text of a sheet with offsets: refusals 1 to 6, 28 and 30, then 33, 35 and 24.
+/// The plan text of a sheet with offsets: refusals 1 to 6, 28 and 30, then 33, 35 and 24.
 pub fn plan_from_sheet(network: &[u8], sheet: &[u8], out: &mut [u8]) -> Result<usize, Refusal>
     ensures write_promises { WritePromises (lines network.now) (lines sheet.now) out.old result out.new }
     ensures padding_ignored { PaddingIgnored network.now (λ padded_network. PaddingIgnored sheet.now (λ padded_sheet. WritePromises (lines padded_network) (lines padded_sheet) out.old result out.new)) }

@@ -36,7 +36,8 @@ pub record SameLent (old new : FourBuffers) : Type 0 where
   pub network₂ : new.network_2.ghost_name ≡ old.network_2.ghost_name
   pub plan₂ : new.plan_2.ghost_name ≡ old.plan_2.ghost_name
 
--- a network that has passed: its counts, the places where its `T` and its `S` lines start, and the tables of its links, movements and signals
+-- a network that has passed: its counts, the places where its `T` and its `S` lines start, and the
+-- tables of its links, movements and signals
 pub record Passed (whole : Whole) : Type 0 where
   pub holds : Hold (network_checks (whole_network whole))
   pub counted : CountsHold (whole_network whole) whole.tables.reading.counts

@@ -1,4 +1,5 @@
--- The form of a plan's lines: a line read is that of the plan which its text means, and the turns of the loop over all lines.
+-- The form of a plan's lines: a line read is that of the plan which its text means, and the turns
+-- of the loop over all lines.
 use Rattle.base_laws.proofs.Kit.{ℕ, suc, ◌+◌, ◌-◌, ◌≤◌, ◌<◌, ◌≡◌, sym, ap, ◌∙◌, Bool, true, List, dec_le, add-one, arith, eqb, length, replicate, length-replicate, List·getD-eq-default}
 use borrow.Author.Count.{below_more}
 use Rattle.base_search.specs.declared.Refusal.{Refusal}

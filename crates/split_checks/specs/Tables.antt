@@ -1,4 +1,5 @@
--- What 40 and 41 require of links and movements, by the tables of a network and the numbers of the links in its first half.
+-- What 40 and 41 require of links and movements, by the tables of a network and the numbers of the
+-- links in its first half.
 use Rattle.std.specs.Prelude.{ℕ, ◌-◌, ◌≤◌, ◌<◌, Bool, not, List, ◌==◌, slice_index}
 use Rattle.base_laws.specs.Test.{◌and◌, ◌or◌, every}
 use Rattle.model.specs.Network.{max_signals}
@@ -17,14 +18,16 @@ none_wait_in links i = waiting_at_start_in links i == 0
 abbrev pub crosses_in : List Movement → List ℕ → ℕ → Bool
 crosses_in movements numbers j = is_border (movement_at movements j) numbers
 
--- movement k is j itself, or neither leaves the link that j leaves nor is a border movement into the link that j enters
+-- movement k is j itself, or neither leaves the link that j leaves nor is a border movement into
+-- the link that j enters
 unfoldable pub stands_apart_in : List Movement → List ℕ → ℕ → ℕ → Bool
 stands_apart_in movements numbers j k =
     k == j
     or not (link_in movements 0 k == link_in movements 0 j)
     and not (crosses_in movements numbers k and link_in movements 1 k == link_in movements 1 j)
 
--- movement j is no border movement, or leaves a link without a signal and with exit rate 0, and all others stand apart from it
+-- movement j is no border movement, or leaves a link without a signal and with exit rate 0, and all
+-- others stand apart from it
 unfoldable pub right_kind_in : List Link → List Movement → List ℕ → ℕ → ℕ → Bool
 right_kind_in links movements numbers count j =
     not (crosses_in movements numbers j)
@@ -37,7 +40,8 @@ unfoldable pub demand_free_in : (ℕ → ℕ) → List Movement → List ℕ →
 demand_free_in demands movements numbers j =
     not (crosses_in movements numbers j) or demands (link_in movements 1 j - 1) == 0
 
--- a link with this number in the first half, 0 if absent, and this signal, 0 for none: it is absent, or has no signal or one of that half
+-- a link with this number in the first half, 0 if absent, and this signal, 0 for none: it is
+-- absent, or has no signal or one of that half
 unfoldable pub own_signal_by : HalfTables → ℕ → ℕ → Bool
 own_signal_by half number signal = number == 0 or signal == 0 or is_in half.signals (signal - 1)
 

@@ -1,4 +1,5 @@
--- The tables of one half of a network: the new number of each link, signal and movement, from 1, and 0 for what is not in the half.
+-- The tables of one half of a network: the new number of each link, signal and movement, from 1,
+-- and 0 for what is not in the half.
 use Rattle.std.specs.Prelude.{ℕ, suc, ◌-◌, ◌≤◌, ◌<◌, ◌≡◌, Bool, not, if◌then◌else◌, List, ◌==◌, length, slice_index}
 use Rattle.text_reader.specs.Lines.{Line}
 use Rattle.base_laws.specs.Test.{◌and◌}
@@ -14,7 +15,8 @@ use Rattle.split_tables.specs.declared.HalfTables.{HalfTables}
 unfoldable pub is_in : List ℕ → ℕ → Bool
 is_in numbers place = not (slice_index numbers place == 0)
 
--- by the numbers of the links, a movement is inside the half, with both its links, or a border movement, with just one
+-- by the numbers of the links, a movement is inside the half, with both its links, or a border
+-- movement, with just one
 unfoldable pub is_inside : Movement → List ℕ → Bool
 is_inside movement numbers = is_in numbers (movement.from - 1) and is_in numbers (movement.to - 1)
 

@@ -17,7 +17,8 @@ abbrev pub end_on : Side → Movement → ℕ
 end_on From movement = movement.from
 end_on To movement = movement.to
 
--- the sums with the number of a movement, if it is a border movement, at the link that it names from 1
+-- the sums with the number of a movement, if it is a border movement, at the link that it names
+-- from 1
 unfoldable pub added_at : Bool → ℕ → ℕ → List ℕ → List ℕ
 added_at border link number sums =
     if border then set sums (link - 1) (slice_index sums (link - 1) + number) else sums

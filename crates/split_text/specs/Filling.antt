@@ -4,7 +4,8 @@ use Rattle.text_reader.specs.Reading.{over}
 use Rattle.model_split.specs.Halves.{in_field}
 use Rattle.split_text.specs.declared.Row.{Row}
 
--- numbers were put into a row behind those that stand in front of it already, and the place is behind them
+-- numbers were put into a row behind those that stand in front of it already, and the place is
+-- behind them
 pub record Filled (numbers : List ℕ) (old new : Row) : Type 0 where
   pub ends : new.at ≡ old.at + length numbers
   pub is : (front base : List ℕ) → length front ≡ old.at → old.numbers.now ≡ over front base → new.numbers.now ≡ over (front ++ numbers) base

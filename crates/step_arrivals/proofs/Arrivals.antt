@@ -1,4 +1,5 @@
--- Laws of the steps by a table of times: the step in which a travel time ends is found by going up, and moves on from one boundary to the next.
+-- Laws of the steps by a table of times: the step in which a travel time ends is found by going up,
+-- and moves on from one boundary to the next.
 use Rattle.base_laws.proofs.Kit.{ℕ, zero, suc, ◌+◌, ◌*◌, ◌-◌, ◌≤◌, ◌<◌, ◌≡◌, Bool, true, false, cond, ◌⊎◌, inl, inr, List, eq-or-lt_of_le, mul-le-mul, add-one, dec_le, arith, le-leb, lt-leb, leb, get_or}
 use mir.Syntax.{w64}
 use mir.Val.{Fits}

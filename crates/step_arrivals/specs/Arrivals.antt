@@ -1,6 +1,6 @@
--- The step of the timeline in which a travel time ends, by a table that has the time of each boundary. These
--- definitions are not the model's: proofs/Boundaries.antt shows that they agree with it if the table holds a network's
--- times.
+-- The step of the timeline in which a travel time ends, by a table that has the time of each
+-- boundary. These definitions are not the model's: proofs/Boundaries.antt shows that they agree
+-- with it if the table holds a network's times.
 use Rattle.std.specs.Prelude.{ℕ, zero, suc, ◌+◌, ◌*◌, ◌-◌, ◌≤◌, ◌<◌, if◌then◌else◌, List, nat_le, length, slice_index}
 
 -- the last of the first n steps that starts by time x
@@ -12,7 +12,8 @@ step_at_in times (suc n) x = if nat_le (slice_index times n) x then n else step_
 unfoldable pub arrival_step_in : List ℕ → ℕ → ℕ → ℕ
 arrival_step_in times n travel = step_at_in times n (slice_index times n - travel)
 
--- the length of step m, and the seconds of it that have elapsed at the time of boundary n minus the travel time
+-- the length of step m, and the seconds of it that have elapsed at the time of boundary n minus the
+-- travel time
 abbrev pub seconds_in : List ℕ → ℕ → ℕ
 seconds_in times m = slice_index times (m + 1) - slice_index times m
 
@@ -29,7 +30,8 @@ pub record Rising (times : List ℕ) (n : ℕ) : Type 0 where
   pub rises : (k : ℕ) → k < n → slice_index times k < slice_index times (k + 1)
   pub small : (k : ℕ) → k ≤ n → slice_index times k ≤ 7200
 
--- A cursor of one link stands at a step that is not past the one to be found, and the step after that starts later than the travel time ends.
+-- A cursor of one link stands at a step that is not past the one to be found, and the step after
+-- that starts later than the travel time ends.
 pub record Cursor (times : List ℕ) (from boundary travel : ℕ) : Type 0 where
   pub rising : Rising times boundary
   pub behind : from ≤ arrival_step_in times boundary travel

@@ -1,4 +1,5 @@
--- The times of the timeline's boundaries, set one after another while its lines are read, as long as its lengths are valid.
+-- The times of the timeline's boundaries, set one after another while its lines are read, as long
+-- as its lengths are valid.
 use Rattle.std.specs.Prelude.{ℕ, ◌+◌, ◌*◌, ◌≤◌, ◌<◌, ◌≡◌, Bool, true, List, nat_le, length, slice_index, set}
 use Rattle.text_reader.specs.Lines.{Line}
 use Rattle.base_laws.specs.Test.{◌and◌, within, every}
@@ -22,7 +23,8 @@ valid_lengths network m =
     every m (λ k. within 1 (timeline_length network k) 60)
     and nat_le (past_count network + step_count network) max_steps
 
--- The first m steps of the timeline are timed: all its steps are few enough, these last 1 to 60 seconds, and their boundaries' times are set.
+-- The first m steps of the timeline are timed: all its steps are few enough, these last 1 to 60
+-- seconds, and their boundaries' times are set.
 pub record TimedTo (network : List Line) (timed : Bool) (m : ℕ) (times : List ℕ) : Type 0 where
   pub room : length times ≡ time_table_size
   pub few : timed ≡ true → past_count network + step_count network ≤ max_steps

@@ -1,4 +1,5 @@
--- The search for the first broken rule, a turn at a time: the row after the step is formed at place 10, and every rule before a place is kept.
+-- The search for the first broken rule, a turn at a time: the row after the step is formed at place
+-- 10, and every rule before a place is kept.
 use Rattle.base_laws.proofs.Kit.{ℕ, ◌+◌, ◌≤◌, ◌<◌, ◌≡◌, sym, ap, ◌∙◌, Bool, true, false, not, List, dec_le, ℕ_discrete, arith, length}
 use Rattle.base_search.specs.declared.Refusal.{Refusal}
 use Rattle.base_search.specs.Checks.{refusal, Verdict}

@@ -1,4 +1,5 @@
--- The thirteen rules by the program's tables are those of the model, where the tables hold what the texts say.
+-- The thirteen rules by the program's tables are those of the model, where the tables hold what the
+-- texts say.
 use Rattle.base_laws.proofs.Kit.{ℕ, suc, ◌<◌, ◌≡◌, refl, List}
 use Rattle.base_search.specs.Checks.{verdict, table}
 use Rattle.base_search.proofs.Table.{SameRules, same-table, ◌also◌}

@@ -1,4 +1,5 @@
--- The judgement of one step by the program's tables: the thirteen rules in their order, each over rising items.
+-- The judgement of one step by the program's tables: the thirteen rules in their order, each over
+-- rising items.
 use Rattle.std.specs.Prelude.{ℕ, ◌+◌, ◌*◌, ◌-◌, ◌≡◌, Bool, true, List, [], ◌∷◌, ◌++◌, length, take, drop, map, Ok}
 use Rattle.base_search.specs.Checks as checks
 use Rattle.base_search.specs.Checks.{verdict, table, Verdict}
@@ -73,7 +74,8 @@ step_rules_in step previous row = rules_in step previous (made_row step previous
 pub record RuleRows (step : Step) (previous row : List ℕ) (rule : Rule) : Type 0 where
   pub sum-rows : (sum : SumRule) → rule ≡ Sum sum → SumRows step previous row
 
--- what the judgement of a step requires, by the row before it and a row that is lent: the sums fit once the limits of the volumes are kept
+-- what the judgement of a step requires, by the row before it and a row that is lent: the sums fit
+-- once the limits of the volumes are kept
 pub record JudgeAsked (step : Step) (previous row : List ℕ) : Type 0 where
   pub row-size : length row ≡ row_size
   pub fits : LimitsKept step → Fits step.counts step.plan_line.now step.movements.now previous row
@@ -83,7 +85,8 @@ pub record StepJudged (step : Step) (previous row : List ℕ) (result : Verdict)
   pub told : result ≡ verdict (table (step.boundary + 1) (step_rules_in step previous row))
   pub made : result ≡ Ok tt → after ≡ made_row step previous row
 
--- what a pass over all rules promises: it says that they are kept exactly where they are; and past the row nothing is written
+-- what a pass over all rules promises: it says that they are kept exactly where they are; and past
+-- the row nothing is written
 pub record PassGot (step : Step) (previous row : List ℕ) (result : Bool) (after : List ℕ) : Type 0 where
   pub told : result ≡ true → StepJudged step previous row (Ok tt) after
   pub passes : verdict (table (step.boundary + 1) (step_rules_in step previous row)) ≡ Ok tt → result ≡ true

@@ -1,4 +1,5 @@
--- One turn of each pass over the limits, and what both have found and formed. Where the sums fit, these are the turns of `step_rows`.
+-- One turn of each pass over the limits, and what both have found and formed. Where the sums fit,
+-- these are the turns of `step_rows`.
 use Rattle.std.proofs.Common.{below_more}
 use Rattle.base_laws.proofs.Kit.{◌≡◌, refl, sym, ◌∙◌, Bool, true, false, List, ℕ, ◌+◌, ◌<◌, arith}
 use Rattle.base_laws.specs.Test.{◌and◌}

@@ -1,4 +1,5 @@
--- The limits by the program's tables are those of the model, where the tables hold what the texts say.
+-- The limits by the program's tables are those of the model, where the tables hold what the texts
+-- say.
 use Rattle.base_laws.proofs.Kit.{◌≡◌, refl, sym, ap₂, ◌∙◌, List, ℕ, ◌*◌, ◌-◌, ◌<◌, dec_le, arith, eq-eqb, leb}
 use Rattle.text_reader.specs.Lines.{Line, lines}
 use Rattle.base_laws.specs.Test.{◌or◌}

@@ -17,7 +17,8 @@ module _ (links : List Link) (phases : List ℕ) (i : ℕ) where
   unfolding is_open_in ◌or◌
   open-shown n e = rw (ne_eqb _ _ n) e
 
--- a movement by its volume and the link that it leaves: one that is 0 keeps 27, and another by that link
+-- a movement by its volume and the link that it leaves: one that is 0 keeps 27, and another by that
+-- link
 module _ (step : Step) (j : ℕ) {volume : ℕ} (is : volume ≡ moved_in step.counts step.plan_line.now j) where
   abbrev from : ℕ
   from = link_in step.movements.now 0 j - 1

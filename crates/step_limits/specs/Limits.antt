@@ -1,4 +1,5 @@
--- Rules 15 and 25 to 27 at one step, and rule 16 by proportions, as tests of the program's tables. Links, movements and signals are counted from 0, a link's signal and a movement's links from 1.
+-- Rules 15 and 25 to 27 at one step, and rule 16 by proportions, as tests of the program's tables.
+-- Links, movements and signals are counted from 0, a link's signal and a movement's links from 1.
 use Rattle.std.specs.Prelude.{◌≡◌, ◌↔◌, Bool, true, not, List, ◌++◌, ℕ, ◌*◌, ◌-◌, ◌<◌, ◌==◌, nat_le, slice_index, drop}
 use Rattle.base_laws.specs.Test.{◌or◌}
 use Rattle.model.specs.Signals.{opens}
@@ -85,8 +86,9 @@ pub record LimitsKept (step : Step) : Type 0 where
 abbrev pub InProportion : Step → ℕ → Type 0
 InProportion step n = (j : ℕ) → j < n → in_proportion step j ≡ true
 
--- the first n links keep their limits, and a row has begun with them; the first m movements keep theirs in proportion, and have been added to it. Its sums wrap, so that it
--- is fixed only where they fit
+-- the first n links keep their limits, and a row has begun with them; the first m movements keep
+-- theirs in proportion, and have been added to it. Its sums wrap, so that it is fixed only where
+-- they fit
 pub record LinksPassed (step : Step) (previous before : List ℕ) (n : ℕ) (row : List ℕ) : Type 0 where
   pub kept : LinkLimitsKept step n
   pub begun : Base step.counts step.plan_line.now previous before
@@ -97,7 +99,9 @@ pub record MovementsPassed (step : Step) (before : List ℕ) (m : ℕ) (row : Li
   pub in-proportion : InProportion step m
   pub added : Room step.counts step.plan_line.now step.movements.now before → Added step.counts step.plan_line.now step.movements.now before m row
 
--- what a pass over all limits promises, by the row before the step, and the row that is lent, before and after the pass: it says true exactly where every limit is kept, and every movement is in proportion
+-- what a pass over all limits promises, by the row before the step, and the row that is lent,
+-- before and after the pass: it says true exactly where every limit is kept, and every movement is
+-- in proportion
 pub record RowGot (step : Step) (previous before : List ℕ) (result : Bool) (row : List ℕ) : Type 0 where
   pub kept : (result ≡ true) ↔ (LimitsKept step × InProportion step step.counts.movements)
   pub made : result ≡ true → Fits step.counts step.plan_line.now step.movements.now previous before

@@ -1,5 +1,6 @@
-// Rules 15 and 25 to 27 of the plan check: the limits of the volumes of a step's `P` line, admitted, let out and moved. The pass over
-// them forms the row after the step, and tests rule 16 by proportions, without a sum.
+// Rules 15 and 25 to 27 of the plan check: the limits of the volumes of a step's `P` line,
+// admitted, let out and moved. The pass over them forms the row after the step, and tests rule 16
+// by proportions, without a sum.
 #![tactic(auto)]
 
 ghost use Rattle.std.specs.Prelude.{◌≡◌, ◌*◌, ◌-◌, ◌<◌, ◌≤◌, leb, length, true};
@@ -11,7 +12,7 @@ ghost use Rattle.base_laws.specs.Test.{◌and◌};
 use network_tables::{Counts, admitted, let_out, moved};
 use step_rows::Step;
 
-// A limit: 15 of what is admitted, 25 of what is let out, and 26 and 27 of a movement.
+/// A limit: 15 of what is admitted, 25 of what is let out, and 26 and 27 of a movement.
 #[derive(Clone, Copy)]
 pub enum LimitRule {
     Offer,
@@ -20,8 +21,8 @@ pub enum LimitRule {
     OpenLink,
 }
 
-// Whether a volume is at most rate × seconds; the product fits 32 bits. That a step has at most 60 seconds is required
-// here, as in step_signals, which says why at its tests of rules 11 to 14.
+// Whether a volume is at most rate × seconds; the product fits 32 bits. That a step has at most 60
+// seconds is required here, as in step_signals, which says why at its tests of rules 11 to 14.
 fn within_rate(volume: u32, rate: u32, seconds: u32) -> bool
     requires { (rate ≤ 10000) × (seconds ≤ 60) }
     ensures { result ≡ leb volume (rate * seconds) }
@@ -29,8 +30,8 @@ fn within_rate(volume: u32, rate: u32, seconds: u32) -> bool
     volume <= rate * seconds
 }
 
-// The tests below take an item's index, and each requires that the step has this item: a struct of step and index would
-// be made for each item.
+// The tests below take an item's index, and each requires that the step has this item: a struct of
+// step and index would be made for each item.
 
 // 15, link i: admitted is at most those at its entry, who wait there or come in the step.
 #[tactic(auto, unfolding(crate::specs::Limits::admits_offer))]
@@ -51,7 +52,8 @@ fn lets_out_rate(step: &Step, i: usize) -> bool
     within_rate(volume, step.links[i].exit_rate, step.step_line[0])
 }
 
-// A link without a signal is always open; another is open if its signal shows a phase of the link's mask.
+// A link without a signal is always open; another is open if its signal shows a phase of the link's
+// mask.
 fn is_open(step: &Step, i: usize) -> bool
     requires { i < step.now.counts.links }
     ensures { result ≡ is_open_in step.now.links.now step.now.phases.now i }
@@ -82,8 +84,8 @@ fn moves_open(step: &Step, j: usize) -> bool
 }
 
 impl LimitRule {
-    // Its number in a refusal. A `match`, not discriminants: with these, a wrong program that gives two variants one
-    // number would not compile, and so would test no proof.
+    /// Its number in a refusal. A `match`, not discriminants: with these, a wrong program that gives
+    /// two variants one number would not compile, and so would test no proof.
     pub fn number(self) -> u32
         ensures { result ≡ limit_rule_number self }
     {
@@ -95,7 +97,7 @@ impl LimitRule {
         }
     }
 
-    // How many items it is tested for.
+    /// How many items it is tested for.
     pub fn items(self, counts: Counts) -> usize
         ensures { result ≡ limit_items counts self }
     {
@@ -105,7 +107,7 @@ impl LimitRule {
         }
     }
 
-    // Whether it holds of an item.
+    /// Whether it holds of an item.
     #[tactic(auto, unfolding(crate::specs::Limits::limit_rule_holds))]
     pub fn holds(self, step: &Step, item: usize) -> bool
         requires { item < limit_items step.now.counts self }
@@ -120,7 +122,8 @@ impl LimitRule {
     }
 }
 
-// Whether a movement keeps 26 and 27, as one that is 0 does. By the tests of both a plan took 1 to 2 % more instructions.
+// Whether a movement keeps 26 and 27, as one that is 0 does. By the tests of both a plan took 1 to
+// 2 % more instructions.
 fn moves_within(step: &Step, j: usize) -> bool
     requires { j < step.now.counts.movements }
     ensures { result ≡ (moves_rate step.now j and moves_open step.now j) }
@@ -131,8 +134,9 @@ fn moves_within(step: &Step, j: usize) -> bool
             && is_open(step, step.from_link(j))
 }
 
-// Whether movement j is to its share as the movement before it, where both leave one link. The shares from a link sum to a whole, so that all movements are in
-// proportion just where each keeps rule 16. The products fit 32 bits, since both volumes are within their rates.
+// Whether movement j is to its share as the movement before it, where both leave one link. The
+// shares from a link sum to a whole, so that all movements are in proportion just where each keeps
+// rule 16. The products fit 32 bits, since both volumes are within their rates.
 fn in_proportion(step: &Step, j: usize) -> bool
     requires item { j < step.now.counts.movements }
     requires within { (moves_rate step.now j ≡ true) × (moves_rate step.now (j - 1) ≡ true) }
@@ -167,8 +171,8 @@ fn links_within_limits(step: &Step, previous: &[u32], row: &mut [u32]) -> bool
     true
 }
 
-// Whether all movements keep 26 and 27, and are in proportion. Each that does is added to the row. Most movements are 0, as are those before them; such a one
-// keeps all, and adds nothing.
+// Whether all movements keep 26 and 27, and are in proportion. Each that does is added to the row.
+// Most movements are 0, as are those before them; such a one keeps all, and adds nothing.
 fn movements_within_limits(step: &Step, row: &mut [u32]) -> bool
     requires { length row.old ≡ row_size }
     ensures passed { result ≡ true → MovementsPassed step.now row.old step.now.counts.movements row.new }
@@ -189,8 +193,9 @@ fn movements_within_limits(step: &Step, row: &mut [u32]) -> bool
     true
 }
 
-// Whether all limits are kept, and all movements are in proportion, by one pass over the links and one over the movements, which form the row after the step meanwhile: with the row formed apart, by
-// `step_rows::next_row`, the largest plan took 6 % more instructions.
+/// Whether all limits are kept, and all movements are in proportion, by one pass over the links and
+/// one over the movements, which form the row after the step meanwhile: with the row formed apart,
+/// by `step_rows::next_row`, the largest plan took 6 % more instructions.
 pub fn row_within_limits(step: &Step, previous: &[u32], row: &mut [u32]) -> bool
     requires { (2 * step.now.counts.links ≤ length previous.now) × (length row.old ≡ row_size) }
     ensures { RowGot step.now previous.now row.old result row.new }

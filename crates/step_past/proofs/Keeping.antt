@@ -1,4 +1,5 @@
--- Row 0 at the start of the timeline, the steps at boundary 0, and the curves of the links as they are kept.
+-- Row 0 at the start of the timeline, the steps at boundary 0, and the curves of the links as they
+-- are kept.
 use Rattle.base_laws.proofs.Kit.{ℕ, ◌+◌, ◌*◌, ◌-◌, ◌≤◌, ◌<◌, ◌≡◌, refl, ◌∙◌, List, ℕ_discrete, arith, length, get_or, set, length-set, get_or-set_same, get_or-set_other}
 use Rattle.network_tables.specs.declared.Link.{Link}
 use Rattle.network_tables.specs.declared.NetworkTables.{NetworkTables}

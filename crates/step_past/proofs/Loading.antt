@@ -33,7 +33,8 @@ left-more : (network : List Line) (m n i : ℕ) → m ≤ n → past_left networ
 unfolding timeline_left
 left-more network m n i h = sum_more (λ k. timeline_outflow network [] k i) m n h
 
--- m lines are added to the row, which was `row₀` at the timeline's start, and the links are at their steps
+-- m lines are added to the row, which was `row₀` at the timeline's start, and the links are at
+-- their steps
 pub record PastTo (text : List ℕ) (counts : Counts) (row₀ row : List ℕ) (arrivals : List Arrival) (fields : List ℕ) (place m : ℕ) : Type 0 where
   pub within : m ≤ past_count (lines text)
   pub starts : Starts text place (timeline_line (lines text) m)

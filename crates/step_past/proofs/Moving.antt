@@ -1,4 +1,5 @@
--- The links moved on from one boundary to the next, by `H` lines that are read once for all links at them, or by a number of each.
+-- The links moved on from one boundary to the next, by `H` lines that are read once for all links
+-- at them, or by a number of each.
 use Rattle.base_laws.proofs.Kit.{ℕ, zero, suc, ◌+◌, ◌*◌, ◌-◌, ◌≤◌, ◌<◌, ◌≡◌, refl, ap, ◌∙◌, true, List, ℕ_discrete, dec_le, add-one, arith, length, take, length-take-le, get_or, set, length-set, get_or-set_same, get_or-set_other}
 use Rattle.text_reader.specs.Lines.{lines, is_record}
 use Rattle.text_reader.specs.Reading.{Starts, line_at}

@@ -1,4 +1,5 @@
--- What entered the links in the past, by the `H` lines of a network text whose forms have passed: no plan has a say in it.
+-- What entered the links in the past, by the `H` lines of a network text whose forms have passed:
+-- no plan has a say in it.
 use Rattle.std.specs.Prelude.{ℕ, suc, ◌+◌, ◌*◌, ◌-◌, ◌≤◌, ◌<◌, ◌≡◌, ◌^◌, true, List, [], Option, Some, None, length, slice_index, slice_index_or}
 use Rattle.text_reader.specs.Lines.{Line, lines}
 use Rattle.text_reader.specs.Reading.{Starts}
@@ -104,7 +105,8 @@ pub record KeepAsked (line : PastLine) (row : List ℕ) (arrivals : List Arrival
   pub row_room : 2 * length arrivals ≤ length row
   pub part : (i : ℕ) → i < length arrivals → past_entries_in line.fields.now i ≤ entered_in row i
 
--- the curve of link i is that of the row after the line's step, if the link's travel time ends in that step; else it is kept
+-- the curve of link i is that of the row after the line's step, if the link's travel time ends in
+-- that step; else it is kept
 pub record KeptAt (line : PastLine) (row : List ℕ) (i : ℕ) (before after : Arrival) : Type 0 where
   pub here : before.step ≡ line.step
       → after ≡ record { step = line.step; start = entered_in row i - past_entries_in line.fields.now i; stop = entered_in row i; place = line.next }
@@ -147,7 +149,8 @@ pub record PastLoaded (tables : NetworkTables) (before : List ℕ) (result : Opt
   pub overflows : result ≡ None → PastOverflows (lines tables.text.now)
 
 -- ---- from one boundary to the next
--- what the links are moved on by, from boundary to boundary: lines that have passed, whose volumes fit 32 bits
+-- what the links are moved on by, from boundary to boundary: lines that have passed, whose volumes
+-- fit 32 bits
 pub record MoveTables (tables : NetworkTables) : Type 0 where
   pub counted : CountsHold (lines tables.text.now) tables.reading.counts
   pub forms : PastForms (lines tables.text.now)
@@ -157,8 +160,9 @@ pub record MoveTables (tables : NetworkTables) : Type 0 where
 abbrev pub arrival_after : PastLine → ℕ → Arrival → Arrival
 arrival_after line i before = record { step = line.step; start = before.stop; stop = before.stop + past_entries_in line.fields.now i; place = line.next }
 
--- An `H` line moves link i on to a boundary that is so many seconds past the start of the line's step, if the link is at the step before it and its travel time
--- ends in the line's step or later; else the link stays.
+-- An `H` line moves link i on to a boundary that is so many seconds past the start of the line's
+-- step, if the link is at the step before it and its travel time ends in the line's step or later;
+-- else the link stays.
 pub record MovedBy (line : PastLine) (since i travel : ℕ) (before after : Arrival) : Type 0 where
   pub goes : before.step + 1 ≡ line.step → travel ≤ since
       → after ≡ arrival_after line i before
@@ -177,7 +181,8 @@ pub record LinksMoved (line : PastLine) (tables : NetworkTables) (since first : 
   pub each-link : (i : ℕ) → first ≤ i → i < tables.reading.counts.links → MovedBy line since i (travel_time_in tables.links.now i) (arrival_at before i) (arrival_at after i)
   pub kept : (i : ℕ) → i < first → arrival_at after i ≡ arrival_at before i
 
--- link i is at a step that is not past its arrival step at a boundary, with the curve of that step if it is a past one
+-- link i is at a step that is not past its arrival step at a boundary, with the curve of that step
+-- if it is a past one
 pub record Behind (text times : List ℕ) (at i travel : ℕ) (arrival : Arrival) : Type 0 where
   pub cursor : Cursor times arrival.step at travel
   pub curved : arrival.step < past_count (lines text) → CurveTo text i (arrival.step + 1) arrival
@@ -194,7 +199,8 @@ pub record PastMoveAsked (tables : NetworkTables) (at i to : ℕ) (arrivals : Li
   pub is-step : to ≡ arrival_step_in tables.times.now at (travel_time_in tables.links.now i)
   pub early : to < tables.reading.counts.past
 
--- link i is moved on, those behind it are not past their steps, and those before it are as they were
+-- link i is moved on, those behind it are not past their steps, and those before it are as they
+-- were
 pub record Moved (tables : NetworkTables) (at i : ℕ) (before after : List Arrival) : Type 0 where
   pub size : length after ≡ max_links
   pub arrived : (arrival_at after i).step ≡ arrival_step_in tables.times.now at (travel_time_in tables.links.now i)

@@ -1,4 +1,5 @@
--- What the functions that take a table's first items, or a part of a line, say of the table and the line.
+-- What the functions that take a table's first items, or a part of a line, say of the table and the
+-- line.
 use Rattle.base_laws.proofs.Kit.{ℕ, zero, suc, ◌+◌, ◌*◌, ◌-◌, ◌/◌, ◌≤◌, ◌≡◌, refl, sym, ap, ◌∙◌, List, [], ◌∷◌, arith, length, get_or}
 use Rattle.std.specs.List.{slice_range, sum as list_sum}
 use Rattle.std.proofs.lemmas.List.Sums.{sum_by-cons}

@@ -1,5 +1,7 @@
--- Movements in proportion to their shares, by plain numbers: each movement's link, volume and share. Where the movements stand by rising links, and the shares from a link are none of them 0
--- and sum to 1000, each movement is to its share as the one before it from its link just where 1000 × each is at most its share × the sum of all from its link.
+-- Movements in proportion to their shares, by plain numbers: each movement's link, volume and
+-- share. Where the movements stand by rising links, and the shares from a link are none of them 0
+-- and sum to 1000, each movement is to its share as the one before it from its link just where 1000
+-- × each is at most its share × the sum of all from its link.
 use Rattle.base_laws.proofs.Kit.{◌≡◌, refl, sym, ap, Bool, true, false, ℕ, zero, suc, ◌+◌, ◌*◌, ◌-◌, ◌≤◌, ◌<◌, dec_le, le_antisymm, le_of_mul-le-mul_right, arith, eqb, eq-eqb, eqb-true}
 use Rattle.base_laws.specs.Sum.{sum, only}
 use Rattle.base_laws.proofs.Sums.{sum_less}

@@ -14,15 +14,17 @@ use Rattle.step_past.specs.Curves.{arrival_at}
 use Rattle.step_signals.specs.Rules.{SignalTables}
 use Rattle.step_rows.specs.Rows.{Named}
 
--- movements stand by the links that they leave, and the shares of those from one link, none of them 0, sum to 1000
+-- movements stand by the links that they leave, and the shares of those from one link, none of them
+-- 0, sum to 1000
 pub record Shared (counts : Counts) (movements : List Movement) : Type 0 where
   pub rising : (j : ℕ) → suc j < counts.movements → link_in movements 0 j ≤ link_in movements 0 (suc j)
   pub some-share : (j : ℕ) → j < counts.movements → 1 ≤ share_in movements j
   pub share-limit : (j : ℕ) → j < counts.movements → share_in movements j ≤ 1000
   pub whole : (j : ℕ) → j < counts.movements → sum counts.movements (λ k. only (link_in movements 0 k == link_in movements 0 j) (share_in movements k)) ≡ 1000
 
--- the counts are few, and the tables have their sizes; links name signals, and movements links; rates are limited, and shares whole; the ledger has the rows up to the boundary at
--- which the step begins; and each travel time before the next boundary ends in a step before that
+-- the counts are few, and the tables have their sizes; links name signals, and movements links;
+-- rates are limited, and shares whole; the ledger has the rows up to the boundary at which the step
+-- begins; and each travel time before the next boundary ends in a step before that
 pub record StepFit (counts : Counts) (links : List Link) (movements : List Movement) (times : List ℕ) (signals : List Signal)
     (plan_line step_line phases asked ledger : List ℕ) (arrivals : List Arrival) (boundary : ℕ) : Type 0 where
   pub few : Few counts

@@ -1,5 +1,6 @@
--- The row after a step, from the row before it and the numbers of the step's `P` line, as the program's tables hold them. Links, movements and signals
--- are counted from 0 here; a movement names its links from 1.
+-- The row after a step, from the row before it and the numbers of the step's `P` line, as the
+-- program's tables hold them. Links, movements and signals are counted from 0 here; a movement
+-- names its links from 1.
 use Rattle.std.specs.Prelude.{◌≡◌, List, [], ◌∷◌, ◌++◌, ℕ, zero, suc, ◌+◌, ◌*◌, ◌-◌, ◌%◌, ◌≤◌, ◌<◌, ◌==◌, ◌^◌, length, slice_index, set, drop}
 use Rattle.text_reader.specs.Lines.{Line}
 use Rattle.base_laws.specs.Sum.{sum, only}
@@ -44,7 +45,8 @@ next_row counts line movements previous =
 abbrev pub wrapped : ℕ → ℕ
 wrapped n = n % 2 ^ 32
 
--- a row that is begun with link i, one to a number of which a volume is added, and one to which a movement is added
+-- a row that is begun with link i, one to a number of which a volume is added, and one to which a
+-- movement is added
 abbrev pub with_link : Counts → List ℕ → List ℕ → ℕ → List ℕ → List ℕ
 with_link counts line previous i row =
     set (set row (2 * i) (wrapped (base_entered counts line previous i))) (2 * i + 1) (wrapped (base_left counts line previous i))

@@ -1,5 +1,6 @@
--- The vehicles that wait at the entries, by the program's tables: one number a link, of who waited at the start or came since and was
--- not admitted. While a step is judged, they stand in the numbers of its `S` line, added to each link's demand.
+-- The vehicles that wait at the entries, by the program's tables: one number a link, of who waited
+-- at the start or came since and was not admitted. While a step is judged, they stand in the
+-- numbers of its `S` line, added to each link's demand.
 use Rattle.std.specs.Prelude.{ℕ, suc, ◌+◌, ◌-◌, ◌≤◌, ◌<◌, ◌≡◌, ◌^◌, List, length, slice_index}
 use Rattle.text_reader.specs.Lines.{Line}
 use Rattle.model.specs.Network.{max_links, link_count, step_length}
@@ -9,7 +10,8 @@ use Rattle.network_tables.specs.Places.{Few}
 use Rattle.network_tables.specs.declared.Link.{Link}
 use Rattle.network_tables.specs.Fields.{step_size, line_size, waiting_at_start_in, length_in, demand_in, admitted_in}
 
--- who waits at the entry of link i, by the table; and who is there in a step, where its `S` line has the demand
+-- who waits at the entry of link i, by the table; and who is there in a step, where its `S` line
+-- has the demand
 abbrev pub waiting_in : List ℕ → ℕ → ℕ
 waiting_in waiting i = slice_index waiting i
 

@@ -1,6 +1,6 @@
-// A step of a plan as it is judged, the ledger's row after it and how it is written, the sums for the totals, and who
-// waits at the entries. The table of those who wait has one number a link: those who waited at the start or came since,
-// and were not admitted.
+// A step of a plan as it is judged, the ledger's row after it and how it is written, the sums for
+// the totals, and who waits at the entries. The table of those who wait has one number a link:
+// those who waited at the start or came since, and were not admitted.
 #![tactic(auto)]
 
 ghost use Rattle.std.specs.Prelude.{◌≡◌, ◌++◌, ◌+◌, ◌*◌, ◌-◌, ◌/◌, ◌<◌, ◌≤◌, ◌^◌, length, take, drop};
@@ -17,8 +17,10 @@ use model::Signal;
 use network_tables::{Counts, Link, Movement, admitted, entered, left, let_out, moved};
 use step_past::Arrival;
 
-// What a step of a plan is judged by; all tables are lent. `plan_line` has the numbers of its `P` line, `step_line` those of its `S` line, with who waits in each
-// link's demand; `phases` are those that it shows, `asked` those that trams ask; the ledger has the rows up to `boundary`, at which the step begins.
+/// What a step of a plan is judged by; all tables are lent. `plan_line` has the numbers of its `P`
+/// line, `step_line` those of its `S` line, with who waits in each link's demand; `phases` are those
+/// that it shows, `asked` those that trams ask; the ledger has the rows up to `boundary`, at which
+/// the step begins.
 #[derive(Clone, Copy)]
 pub struct Step<'a> {
     pub counts: Counts,
@@ -37,7 +39,7 @@ pub struct Step<'a> {
 }
 
 impl Step<'_> {
-    // The link, from 0, that movement j leaves.
+    /// The link, from 0, that movement j leaves.
     pub fn from_link(&self, j: usize) -> usize
         requires { j < self.now.counts.movements }
         ensures { (result + 1 ≡ link_in self.now.movements.now 0 j) × (result < self.now.counts.links) }
@@ -46,8 +48,9 @@ impl Step<'_> {
     }
 }
 
-// Begins a row with link i: what has entered and left it before the step, with what the line admits on it and lets out from it. The sums wrap, here and
-// below: a pass forms the row while it tests the limits by which they fit.
+/// Begins a row with link i: what has entered and left it before the step, with what the line admits
+/// on it and lets out from it. The sums wrap, here and below: a pass forms the row while it tests
+/// the limits by which they fit.
 pub fn begin_link(previous: &[u32], line: &[u32], counts: Counts, i: usize, row: &mut [u32])
     requires { BeginAsked counts line.now previous.now row.old × (i < counts.links) }
     ensures { row.new ≡ with_link counts line.now previous.now i row.old }
@@ -66,7 +69,7 @@ fn add_at(row: &mut [u32], at: usize, volume: u32)
     }
 }
 
-// Adds the volume of a movement to what has entered its to link and to what has left its from link.
+/// Adds the volume of a movement to what has entered its to link and to what has left its from link.
 pub fn add_movement(movement: &Movement, volume: u32, row: &mut [u32])
     requires from { (1 ≤ movement.now.from) × (2 * movement.now.from ≤ length row.old) }
     requires to { (1 ≤ movement.now.to) × (2 * movement.now.to ≤ length row.old) }
@@ -96,8 +99,8 @@ fn base_row(previous: &[u32], line: &[u32], counts: Counts, row: &mut [u32])
     }
 }
 
-// The row after a step, in the front of a lent row, for the search of a broken rule. Only for a line that has passed rules 15 and 25 to 27, whose volumes are small
-// enough for the sums to fit.
+/// The row after a step, in the front of a lent row, for the search of a broken rule. Only for a
+/// line that has passed rules 15 and 25 to 27, whose volumes are small enough for the sums to fit.
 pub fn next_row(
     previous: &[u32],
     line: &[u32],
@@ -112,8 +115,8 @@ pub fn next_row(
     add_movements(line, movements, counts, row);
 }
 
-// Writes a row into the ledger from index `at` on, through the part of the lent ledger that begins in its middle; all else
-// is kept.
+/// Writes a row into the ledger from index `at` on, through the part of the lent ledger that begins
+/// in its middle; all else is kept.
 pub fn write_row(ledger: &mut [u32], at: usize, row: &[u32])
     requires { at + length row.now ≤ length ledger.old }
     ensures { ledger.new ≡ take at ledger.old ++ (row.now ++ drop (at + length row.now) ledger.old) }
@@ -121,7 +124,8 @@ pub fn write_row(ledger: &mut [u32], at: usize, row: &[u32])
     ledger[at..at + row.len()].copy_from_slice(row);
 }
 
-// The sum of one number a link: what a step admits or lets out on all links, or who waits at all entries.
+/// The sum of one number a link: what a step admits or lets out on all links, or who waits at all
+/// entries.
 pub fn sum_of(numbers: &[u32]) -> u64
     requires { length numbers.now ≤ max_links }
     ensures { (result ≡ list_sum numbers.now) × (result ≤ (2 ^ 32 - 1) * length numbers.now) }
@@ -129,7 +133,7 @@ pub fn sum_of(numbers: &[u32]) -> u64
     numbers.iter().map(|number| u64::from(*number)).sum()
 }
 
-// What the line of a step admits on all links, and what it lets out from all.
+/// What the line of a step admits on all links.
 pub fn all_admitted(line: &[u32], counts: Counts) -> u64
     requires { Few counts × (length line.now ≡ line_size) }
     ensures { (result ≡ sum counts.links (admitted_in counts line.now)) × (result ≤ (2 ^ 32 - 1) * counts.links) }
@@ -138,6 +142,7 @@ pub fn all_admitted(line: &[u32], counts: Counts) -> u64
     sum_of(&line[admitted_at..admitted_at + counts.links])
 }
 
+/// What the line of a step lets out from all links.
 pub fn all_let_out(line: &[u32], counts: Counts) -> u64
     requires { Few counts × (length line.now ≡ line_size) }
     ensures { (result ≡ sum counts.links (let_out_in counts line.now)) × (result ≤ (2 ^ 32 - 1) * counts.links) }
@@ -146,8 +151,9 @@ pub fn all_let_out(line: &[u32], counts: Counts) -> u64
     sum_of(&line[let_out_at..let_out_at + counts.links])
 }
 
-// The vehicles in the network at a boundary: what all links hold, by its row, which has two numbers a link. A loop: in
-// the closure of a sum over the links, the precondition of `entered` on the row can't be shown.
+/// The vehicles in the network at a boundary: what all links hold, by its row, which has two numbers
+/// a link. A loop: in the closure of a sum over the links, the precondition of `entered` on the row
+/// can't be shown.
 pub fn held_in(row: &[u32]) -> u64
     requires { length row.now ≤ 2 * max_links }
     ensures { (result ≡ sum (length row.now / 2) (λ i. entered_in row.now i - left_in row.now i)) × (result ≤ (2 ^ 32 - 1) * (length row.now / 2)) }
@@ -159,7 +165,8 @@ pub fn held_in(row: &[u32]) -> u64
     total
 }
 
-// Who waits at the start, as the `Q` lines have it. Not inlined, for check_plan's speed (docs/MEASUREMENTS.md).
+/// Who waits at the start, as the `Q` lines have it. Not inlined, for check_plan's speed
+/// (docs/MEASUREMENTS.md).
 #[inline(never)]
 pub fn first_waiting(links: &[Link], waiting: &mut [u32])
     requires { FirstAsked links.now waiting.old }
@@ -170,7 +177,8 @@ pub fn first_waiting(links: &[Link], waiting: &mut [u32])
     }
 }
 
-// Who is at the entries in a step: the numbers of its `S` line, with those who wait added to each link's demand.
+/// Who is at the entries in a step: the numbers of its `S` line, with those who wait added to each
+/// link's demand.
 pub fn add_waiting(waiting: &[u32], step: &mut [u32])
     requires { AddAsked waiting.now step.old }
     ensures { Offers (length waiting.now) waiting.now step.old step.new }
@@ -178,8 +186,8 @@ pub fn add_waiting(waiting: &[u32], step: &mut [u32])
     network_tables::add_each(waiting, &mut step[1..]);
 }
 
-// Who waits after a step that keeps every rule: those who were at the entry in the step and were not admitted. By
-// index: the tables go together, and each starts elsewhere in the line.
+/// Who waits after a step that keeps every rule: those who were at the entry in the step and were
+/// not admitted. By index: the tables go together, and each starts elsewhere in the line.
 pub fn next_waiting(step: &[u32], line: &[u32], counts: Counts, waiting: &mut [u32])
     requires { WaitsAsked counts step.now line.now waiting.old }
     ensures { Waits counts step.now line.now counts.links waiting.new }

@@ -1,4 +1,5 @@
--- What a part of a list has, what the masks of a table's first signals are, and how these are stepped on.
+-- What a part of a list has, what the masks of a table's first signals are, and how these are
+-- stepped on.
 use Rattle.base_laws.proofs.Kit.{ℕ, ◌+◌, ◌-◌, ◌^◌, ◌≤◌, ◌<◌, ◌≡◌, ap, ◌∙◌, List, arith, length, get_or, drop, get_or-take, get_or-drop, length-take-le, length-drop, refl, length-append, ◌++◌, take, List·getD-append, get_or-append-add}
 use Rattle.std.specs.List.{slice_range}
 use Rattle.model.specs.declared.Signal.{Signal}

@@ -1,4 +1,5 @@
--- A number with one set bit: its count of ones is 1 exactly where it is a power of two, and its trailing zeros are the exponent.
+-- A number with one set bit: its count of ones is 1 exactly where it is a power of two, and its
+-- trailing zeros are the exponent.
 use Rattle.base_laws.proofs.Kit.{◌≡◌, refl, sym, ap, ◌∙◌, subst, ◌⊎◌, inl, inr, ⊎_elim, ℕ, zero, suc, ◌+◌, ◌*◌, ◌/◌, ◌%◌, ◌^◌, ◌<◌, pow-suc, mod-lt, zero-lt-suc, div-add-mod', arith, add-one}
 use lib.Arith.{lt-one}
 use lib.Pow.{shr_lt, pow_pos}

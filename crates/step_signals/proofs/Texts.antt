@@ -1,4 +1,5 @@
--- Rules 10, 29 and 11 to 14 by the program's tables are those of the model, where the tables hold what the texts say.
+-- Rules 10, 29 and 11 to 14 by the program's tables are those of the model, where the tables hold
+-- what the texts say.
 use Rattle.base_laws.proofs.Kit.{ℕ, ◌<◌, ◌≡◌, List}
 use Rattle.text_reader.specs.Lines.{Line}
 use Rattle.model.specs.Network.{signal_count, step_length, ordinary}

@@ -3,7 +3,8 @@ use Rattle.std.specs.Prelude.{ℕ, ◌≤◌, ◌<◌, List, slice_index}
 use Rattle.model.specs.declared.Signal.{Signal}
 use Rattle.network_tables.specs.Fields.{signal_at}
 
--- what the network's check ensures of a signal before the plan, and rules 10, 13 and 14 after each step
+-- what the network's check ensures of a signal before the plan, and rules 10, 13 and 14 after each
+-- step
 pub record Ready (s : Signal) : Type 0 where
   pub few-phases : s.phases ≤ 8
   pub shows-phase : s.shown ≤ s.phases

@@ -1,4 +1,5 @@
--- Rules 10, 29 and 11 to 14 by the program's tables. A tram asks a phase of a signal, 0 in an ordinary step.
+-- Rules 10, 29 and 11 to 14 by the program's tables. A tram asks a phase of a signal, 0 in an
+-- ordinary step.
 use Rattle.std.specs.Prelude.{ℕ, ◌+◌, ◌≤◌, ◌<◌, ◌≡◌, Bool, true, not, if◌then◌else◌, List, nat_le, ◌==◌, length, slice_index}
 use Rattle.base_laws.specs.Test.{◌and◌, ◌or◌}
 use Rattle.model.specs.declared.Signal.{Signal}
@@ -17,7 +18,8 @@ signal_rule_number LeastTime = 12
 signal_rule_number GreatestTime = 13
 signal_rule_number Cycle = 14
 
--- it holds of a signal that shows phase q, where a tram asks a phase, for a step of so many seconds: 11 to 14 in an ordinary step
+-- it holds of a signal that shows phase q, where a tram asks a phase, for a step of so many
+-- seconds: 11 to 14 in an ordinary step
 unfoldable pub signal_test : SignalRule → Signal → ℕ → ℕ → ℕ → Bool
 signal_test OnePhase s q asked seconds = shows_one_phase q
 signal_test TramPhase s q asked seconds = asked == 0 or q == asked

@@ -1,4 +1,5 @@
--- All signals through a step, by the program's tables. A tram asks a phase of a signal, 0 in an ordinary step.
+-- All signals through a step, by the program's tables. A tram asks a phase of a signal, 0 in an
+-- ordinary step.
 use Rattle.std.specs.Prelude.{ℕ, ◌-◌, ◌^◌, ◌≤◌, ◌<◌, ◌≡◌, if◌then◌else◌, List, ◌==◌, length, slice_index}
 use Rattle.text_reader.specs.Lines.{Line}
 use Rattle.model.specs.declared.Signal.{Signal}
@@ -35,7 +36,8 @@ pub record AdvanceAsked (signals : List Signal) (count : ℕ) (phases asked : Li
   pub phases-size : count ≤ length phases
   pub asked-size : count ≤ length asked
 
--- the first n signals are one step on, in which they show these phases and trams ask these; the others are as they were
+-- the first n signals are one step on, in which they show these phases and trams ask these; the
+-- others are as they were
 pub record Advanced (signals : List Signal) (n : ℕ) (phases asked : List ℕ) (seconds : ℕ) (result : List Signal) : Type 0 where
   pub size : length result ≡ max_signals
   pub on : (r : ℕ) → r < n

@@ -1,4 +1,5 @@
--- Rules 16 to 18 by the program's tables are those of the model, where the tables hold what the texts say.
+-- Rules 16 to 18 by the program's tables are those of the model, where the tables hold what the
+-- texts say.
 use Rattle.base_laws.proofs.Kit.{◌≡◌, sym, ap, ap₂, ◌∙◌, List, [], ℕ, suc, ◌+◌, ◌*◌, ◌-◌, ◌<◌, dec_le, ℕ_discrete, add-one, arith, lt-ltb, le-ltb, eq-eqb, ne_eqb, leb}
 use Rattle.text_reader.specs.Lines.{Line, lines}
 use Rattle.model.specs.Network.{link_count, movement_count, step_count, on_timeline, travel_time, arrival_step, elapsed}

@@ -1,4 +1,5 @@
--- Rules 16 to 18 at one step, as tests of the program's tables: those of the step, and the rows before and after it. Links and movements are counted from 0, a movement's links from 1.
+-- Rules 16 to 18 at one step, as tests of the program's tables: those of the step, and the rows
+-- before and after it. Links and movements are counted from 0, a movement's links from 1.
 use Rattle.std.specs.Prelude.{◌≡◌, Bool, true, if◌then◌else◌, List, ℕ, ◌+◌, ◌*◌, ◌-◌, ◌≤◌, ◌<◌, nat_le, nat_lt, ◌==◌, length}
 use Rattle.network_tables.specs.declared.Counts.{Counts}
 use Rattle.network_tables.specs.Fields.{row_size, capacity_in, travel_time_in, link_in, share_in, moved_in, entered_in, left_in, entered_at}
@@ -15,7 +16,8 @@ keeps_share step j =
     nat_le (1000 * moved_in step.counts step.plan_line.now j)
     (share_in step.movements.now j * moved_by step.counts step.plan_line.now step.movements.now 0 step.counts.movements (link_in step.movements.now 0 j - 1))
 
--- entered of link i at the start of the step of the timeline in which its travel time ends: of a past one as it arrived, of a later one by the ledger
+-- entered of link i at the start of the step of the timeline in which its travel time ends: of a
+-- past one as it arrived, of a later one by the ledger
 unfoldable pub entered_before : Step → ℕ → ℕ
 entered_before step i =
     let arrival = arrival_at step.arrivals.now i in
@@ -32,7 +34,8 @@ entered_after step row i =
     else if boundary == step.boundary then entered_in row i
     else entered_at step.ledger.now step.counts.links (boundary + 1) i
 
--- 17, link i: what has left it by the boundary after the step is at most what has arrived, both × the length of the step in which the travel time ends
+-- 17, link i: what has left it by the boundary after the step is at most what has arrived, both ×
+-- the length of the step in which the travel time ends
 unfoldable pub leaves_arrived : Step → List ℕ → ℕ → Bool
 leaves_arrived step row i =
     let last = (arrival_at step.arrivals.now i).step in

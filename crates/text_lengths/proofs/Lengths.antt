@@ -1,5 +1,5 @@
--- No text that passes, and none that is written, is longer than the header says: 2 bytes and 11 for each number are a
--- line, where every number is padded.
+-- No text that passes, and none that is written, is longer than the header says: 2 bytes and 11 for
+-- each number are a line, where every number is padded.
 use Rattle.base_laws.proofs.Kit.{ℕ, ◌+◌, ◌*◌, ◌≤◌, ◌<◌, ◌≡◌, List, dec_le, arith, eqb-true, length}
 use Rattle.base_search.specs.Checks.{Hold}
 use Rattle.base_search.proofs.Laws.{hold-of-passes}

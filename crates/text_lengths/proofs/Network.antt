@@ -1,4 +1,5 @@
--- No valid network text is longer than 71,988 bytes: with one step there are at most eight tram lines, and with more there are fewer past steps, whose lines are longer.
+-- No valid network text is longer than 71,988 bytes: with one step there are at most eight tram
+-- lines, and with more there are fewer past steps, whose lines are longer.
 use Rattle.base_laws.proofs.Kit.{ℕ, ◌+◌, ◌*◌, ◌≤◌, ◌≡◌, List, le_refl, dec_le, arith, leb-true, length}
 use Rattle.base_search.specs.Checks.{Hold}
 use Rattle.text_reader.specs.Lines.{Line, lines}

@@ -1,5 +1,5 @@
--- No plan text that is written from a listing is longer than 151,920 bytes, and none written for a sheet longer than 30,960: a mask has at most three digits, a volume
--- ten, and a volume of 0 one.
+-- No plan text that is written from a listing is longer than 151,920 bytes, and none written for a
+-- sheet longer than 30,960: a mask has at most three digits, a volume ten, and a volume of 0 one.
 use Rattle.base_laws.proofs.Kit.{ℕ, suc, ◌+◌, ◌*◌, ◌-◌, ◌^◌, ◌≤◌, ◌<◌, ◌≡◌, List, ◌++◌, pow-le-pow_right, dec_lt, arith, lt-ltb, le-ltb, ltb, length, get_or, length-append, List·getD-eq-default, get_or-append-add}
 use Rattle.base_search.specs.Checks.{Hold}
 use Rattle.text_reader.specs.Lines.{Line}

@@ -1,5 +1,5 @@
--- The greatest lengths of texts, in bytes, of the header of the C functions. A number that is read may be padded to ten digits; none that is written is
--- padded.
+-- The greatest lengths of texts, in bytes, of the header of the C functions. A number that is read
+-- may be padded to ten digits; none that is written is padded.
 use Rattle.std.specs.Prelude.{ℕ, ◌≤◌, ◌≡◌, List, length, Ok}
 use Rattle.base_search.specs.Checks.{verdict}
 use Rattle.text_reader.specs.Lines.{Line, lines}
@@ -11,7 +11,8 @@ use Rattle.listing_lines.specs.Entry.{Entry}
 use Rattle.listing_call.specs.Listing as listing
 use Rattle.model_sheet.specs.Cycle as sheet
 
--- PLANCHECK_NETWORK_TEXT_MAX, PLANCHECK_PLAN_TEXT_MAX and PLANCHECK_WRITTEN_PLAN_MAX; and, shorter than the last, a plan for a sheet
+-- PLANCHECK_NETWORK_TEXT_MAX, PLANCHECK_PLAN_TEXT_MAX and PLANCHECK_WRITTEN_PLAN_MAX; and, shorter
+-- than the last, a plan for a sheet
 abbrev pub network_text_most : ℕ
 network_text_most = 71_988
 

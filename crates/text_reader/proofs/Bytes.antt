@@ -1,4 +1,5 @@
--- The first line of some bytes, read byte by byte: what `split` says of it by whether a tab, a line feed or another byte comes first.
+-- The first line of some bytes, read byte by byte: what `split` says of it by whether a tab, a line
+-- feed or another byte comes first.
 use Rattle.base_laws.proofs.Kit.{ℕ, suc, ◌+◌, ◌<◌, ◌≡◌, refl, sym, ap, ◌∙◌, ◌≢◌, Bool, true, false, List, [], ◌∷◌, map, arith, eq-eqb, ne_eqb, lt-ltb, ltb-true, ℕ_discrete, eqb, ltb, eqb·suc-zero, length, drop, get_or}
 use Rattle.text_reader.specs.Field.{field_of}
 use Rattle.text_reader.specs.Lines.{in_front, split, line_of, lines_of, lines, no_line, letter_of}

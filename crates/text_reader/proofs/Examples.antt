@@ -60,7 +60,8 @@ one-too-large : field_of (bytes "4294967296") ≡ None
 unfolding opened
 one-too-large = refl
 
--- the line at place 4 is a record of the letter B and two numbers, and the next line would start at place 10
+-- the line at place 4 is a record of the letter B and two numbers, and the next line would start at
+-- place 10
 a-record : record_at 66 2 (bytes "A\t7\nB\t8\t9\n") 4 ≡ Some 10
 unfolding opened line_at next_line record_at
 a-record = refl

@@ -1,5 +1,6 @@
--- A loop that reads values one after another into a list that it was lent: what it has done when k values are stored and the next is to be read from
--- the state s. `vals n s` are the values that at most n steps from s give, and `res n s` is the answer of at most n steps from s.
+-- A loop that reads values one after another into a list that it was lent: what it has done when k
+-- values are stored and the next is to be read from the state s. `vals n s` are the values that at
+-- most n steps from s give, and `res n s` is the answer of at most n steps from s.
 use Rattle.base_laws.proofs.Kit.{ℕ, suc, ◌+◌, ◌-◌, ◌≤◌, ◌<◌, ◌≡◌, refl, sym, ◌∙◌, List, [], ◌∷◌, ◌++◌, add-one, sub-zero, arith, length, take, drop, set, take-append-drop, length-set, drop-cons, take-suc-set, drop-set-lt, append_snoc}
 use Rattle.text_reader.specs.Reading.{over, Got}
 

@@ -1,4 +1,5 @@
--- How long a text of records may be: a record has a letter, a tab and at most ten digits for each number, and a line feed.
+-- How long a text of records may be: a record has a letter, a tab and at most ten digits for each
+-- number, and a line feed.
 use Rattle.base_laws.proofs.Kit.{ℕ, zero, suc, ◌+◌, ◌*◌, ◌≤◌, ◌<◌, ◌≡◌, refl, sym, ap, ◌∙◌, Bool, true, false, cond, ◌&&◌, and-eq-true_iff, List, [], ◌∷◌, map, le_refl, dec_le, arith, leb-true, eqb-true, eq-eqb, eqb, leb, length, drop, get_or, length-drop}
 use Rattle.text_reader.specs.Field.{is_numeral, field_of, digits, decimal, largest}
 use Rattle.text_reader.specs.Lines.{in_front, split, line_of, lines, letter_of, no_letter, no_line, is_number, all_numbers, is_record}

@@ -1,4 +1,5 @@
--- Texts that differ only in padding have the same lines, so all that is stated over lines is the same for both.
+-- Texts that differ only in padding have the same lines, so all that is stated over lines is the
+-- same for both.
 use Rattle.base_laws.proofs.Kit.{ℕ, suc, ◌<◌, ◌≡◌, refl, sym, ap, ◌∙◌, inl, inr, ◌≢◌, List, [], ◌∷◌, ◌++◌, map, foldl, append-nil, Bool, true, false, ◌&&◌, and-eq-true_iff, arith, ℕ_discrete, ne_eqb, le-leb, eqb, leb, eqb·suc-zero, length, drop, get_or}
 use Rattle.text_reader.specs.Field.{digit, digits, shift, decimal, is_numeral, field_of}
 use Rattle.text_reader.specs.Lines.{in_front, split, line_of, lines_of, lines}

@@ -1,4 +1,5 @@
--- The way to the numbers of a line that has passed: its bytes behind the letter are tabs and digits, up to its line feed.
+-- The way to the numbers of a line that has passed: its bytes behind the letter are tabs and
+-- digits, up to its line feed.
 use Rattle.base_laws.proofs.Kit.{ℕ, zero, suc, ◌+◌, ◌-◌, ◌/◌, ◌≤◌, ◌<◌, ◌≡◌, refl, sym, ap, ◌∙◌, ◌≢◌, Bool, true, false, cond, leb, ◌&&◌, and-eq-true_iff, List, [], ◌∷◌, add-one, add-zero, ℕ_discrete, arith, eq-eqb, eqb-true, length, drop, get_or, drop_of_length-le, drop-cons, drop-drop, get_or-drop, length-drop}
 use Rattle.base_laws.specs.Sum.{sum}
 use Rattle.base_laws.proofs.Sums.{sum_bound}

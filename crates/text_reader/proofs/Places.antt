@@ -1,4 +1,5 @@
--- What stands at a place of a text, by the byte there: the field that starts at it, and how the line goes on.
+-- What stands at a place of a text, by the byte there: the field that starts at it, and how the
+-- line goes on.
 use Rattle.base_laws.proofs.Kit.{ℕ, suc, ◌+◌, ◌≤◌, ◌<◌, ◌≡◌, refl, sym, ap, ◌∙◌, ◌≢◌, Bool, true, false, cond, ◌&&◌, and-true, and-false}
 use Rattle.base_laws.proofs.Kit.{List, [], ◌∷◌, add-one, dec_le, ℕ_discrete, arith, eq-eqb, ne_eqb, eqb-true, eqb-false, eqb, leb, leb·zero, leb·suc-zero, leb·suc-suc, eqb·zero-suc, eqb·suc-zero, eqb·suc-suc, length, take, drop, get_or, drop_of_length-le, List·getD-eq-default, drop-cons, drop-drop}
 use Rattle.text_reader.specs.declared.FieldNumber.{FieldNumber}

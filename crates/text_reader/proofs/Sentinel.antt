@@ -1,4 +1,5 @@
--- The laws of the functions that read a text which a line feed ends: behind a byte that is no line feed the text goes on. Each is in the form of a need.
+-- The laws of the functions that read a text which a line feed ends: behind a byte that is no line
+-- feed the text goes on. Each is in the form of a need.
 use Rattle.base_laws.proofs.Kit.{ℕ, ◌+◌, ◌-◌, ◌*◌, ◌≤◌, ◌<◌, ◌≡◌, refl, sym, ap, ◌∙◌, ◌≢◌, Bool, true, false, cond, not, and-eq-true_iff, List, [], ◌∷◌, arith, add-zero, ℕ_discrete, eq-eqb, eqb-true, eqb-false, ne_eqb, eqb, length, get_or, set}
 use Rattle.text_reader.specs.declared.Ended.{Ended}
 use Rattle.text_reader.specs.declared.Ended.TheVariants.{ByTab, ByLineFeed, Neither}

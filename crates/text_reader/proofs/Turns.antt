@@ -1,4 +1,5 @@
--- The laws of the functions that go by places, each in the form of a need: what a loop's head, the tests and the calls say gives what is asked.
+-- The laws of the functions that go by places, each in the form of a need: what a loop's head, the
+-- tests and the calls say gives what is asked.
 use Rattle.base_laws.proofs.Kit.{ℕ, suc, ◌+◌, ◌-◌, ◌*◌, ◌≤◌, ◌<◌, ◌≡◌, refl, sym, ap, ◌∙◌, ◌≢◌, Bool, true, false, cond, not, ◌&&◌, and-false, and-true, and-eq-true_iff, List, [], ◌∷◌, arith, ℕ_discrete}
 use Rattle.base_laws.proofs.Kit.{dec_le, eq-eqb, ne_eqb, eqb-true, eqb-false, lt-leb, leb-true, leb-false, not-true, not-false, eqb, leb, eqb·suc-zero, length, drop, get_or, set, drop_of_length-le, List·getD-eq-default, drop-cons}
 use Rattle.text_reader.specs.declared.Numbers.{Numbers}

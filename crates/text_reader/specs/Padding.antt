@@ -12,7 +12,8 @@ unpadded (b ∷ bs) = if b == 48 then unpadded bs else b ∷ bs
 unfoldable pub one_to_ten : List ℕ → Bool
 one_to_ten field = nat_le 1 (length field) && nat_le (length field) 10 && digits field
 
--- fields that differ only in padding: the same bytes, or one to ten digits each, the same behind their leading zeros
+-- fields that differ only in padding: the same bytes, or one to ten digits each, the same behind
+-- their leading zeros
 unfoldable pub SameField : List ℕ → List ℕ → Type 0
 SameField f g = (f ≡ g) ⊎ ((one_to_ten f ≡ true) × (one_to_ten g ≡ true) × (unpadded f ≡ unpadded g))
 
@@ -31,7 +32,8 @@ SameLine a b =
 unfoldable pub SameText : List ℕ → List ℕ → Type 0
 SameText a b = Pairwise SameLine (split 10 a) (split 10 b)
 
--- Padding makes no difference: what holds of a text, such as a call's answer and all that it writes, holds of
--- every text that differs from it only in padding. For several texts the definition is used one inside the other.
+-- Padding makes no difference: what holds of a text, such as a call's answer and all that it
+-- writes, holds of every text that differs from it only in padding. For several texts the
+-- definition is used one inside the other.
 abbrev pub PaddingIgnored : List ℕ → (List ℕ → Type 0) → Type 0
 PaddingIgnored text Said = (padded : List ℕ) → SameText text padded → Said padded

@@ -20,7 +20,8 @@ pub record PassedLine (text : List ℕ) (at total : ℕ) : Type 0 where
 abbrev pub block_size : ℕ
 block_size = 32
 
--- what a byte counts among the digits of a block: 1 if bit 4 is set, as in each digit, but in no tab and no line feed
+-- what a byte counts among the digits of a block: 1 if bit 4 is set, as in each digit, but in no
+-- tab and no line feed
 unfoldable pub digit_weight : ℕ → ℕ
 digit_weight b = bit_and (b / 16) 1
 
@@ -28,7 +29,8 @@ digit_weight b = bit_and (b / 16) 1
 abbrev pub digits_in : List ℕ → ℕ → ℕ → ℕ
 digits_in text at n = sum n (λ k. digit_weight (slice_index text (at + k)))
 
--- the bytes from a place on are tabs and digits, up to the line feed that ends the line, and n fields at least follow
+-- the bytes from a place on are tabs and digits, up to the line feed that ends the line, and n
+-- fields at least follow
 pub record NumbersAhead (text : List ℕ) (at n : ℕ) : Type 0 where
   pub plain : (k : ℕ) → at ≤ k → k + 1 < next_line text at → slice_index text k ≢ 9
       → digit (slice_index text k) ≡ true

@@ -45,13 +45,15 @@ at_end text at = length (lines (drop at text)) == 0
 unfoldable pub Starts : List ℕ → ℕ → ℕ → Type 0
 Starts text at i = lines (drop at text) ≡ drop i (lines text)
 
--- What a function that reads numbers into a slice promises: its result is the answer, and the numbers stand over what the slice held before.
+-- What a function that reads numbers into a slice promises: its result is the answer, and the
+-- numbers stand over what the slice held before.
 pub record Got {R : Type 0} (answer : R) (numbers before : List ℕ) (result : R) (after : List ℕ) : Type 0 where
   pub told : result ≡ answer
   pub holds : after ≡ over numbers before
 
 -- ---- for the reader's own functions
--- the bytes of the field that starts at a place: up to the next tab or line feed, or to the end of the text
+-- the bytes of the field that starts at a place: up to the next tab or line feed, or to the end of
+-- the text
 unfoldable pub field_at : List ℕ → ℕ → List ℕ
 field_at text at = slice_index_or (split 9 (slice_index_or (split 10 (drop at text)) 0 [])) 0 []
 
@@ -74,7 +76,8 @@ worth n v bs =
     then Some (foldl shift v bs)
     else None
 
--- what the bytes of a field from a place on say after digits that say v, where n digits more may come, and where the field ends
+-- what the bytes of a field from a place on say after digits that say v, where n digits more may
+-- come, and where the field ends
 unfoldable pub rest_at : ℕ → ℕ → List ℕ → ℕ → Option FieldNumber
 rest_at n v text at = located (at + length (field_at text at)) (worth n v (field_at text at))
 
@@ -92,7 +95,8 @@ unfoldable pub if_ended : List ℕ → Option FieldNumber → Option FieldNumber
 if_ended text (Some number) = if separator (slice_index text number.next) then Some number else None
 if_ended text None = None
 
--- What the digits at a place promise: with the byte behind them, which is a byte of the text, they say what the field says.
+-- What the digits at a place promise: with the byte behind them, which is a byte of the text, they
+-- say what the field says.
 pub record DigitsRead (text : List ℕ) (from : ℕ) (result : (Option FieldNumber)) : Type 0 where
   pub says : if_ended text result ≡ rest_at 10 0 text from
   pub within : (number : FieldNumber) → result ≡ Some number → number.next < length text
@@ -110,11 +114,13 @@ EndsAs text found (ByTab number) = (found ≡ Some number) × (slice_index text 
 EndsAs text found (ByLineFeed number) = (found ≡ Some number) × (slice_index text number.next ≡ 10)
 EndsAs text found Neither = found ≡ None
 
--- the line feed before this place ends a number: the last of its line, if it was the last that was asked for, or one is missing
+-- the line feed before this place ends a number: the last of its line, if it was the last that was
+-- asked for, or one is missing
 unfoldable pub ended_by_line_feed : ℕ → Bool → Numbers
 ended_by_line_feed next was_last = if was_last then Last next else Missing
 
--- whether n numbers are the last of the line of a letter at a place, more follows them, or one is missing, as in a line of another letter
+-- whether n numbers are the last of the line of a letter at a place, more follows them, or one is
+-- missing, as in a line of another letter
 unfoldable pub numbers_as : ℕ → ℕ → List ℕ → ℕ → Numbers
 numbers_as letter n text at =
     if is_record letter n (line_at text at) then Last (next_line text at)

@@ -30,15 +30,15 @@ struct Passed {
     left: usize,
 }
 
-// A number of a line, and the place of the next line.
+/// A number of a line, and the place of the next line.
 #[derive(Clone, Copy)]
 pub struct LineNumber {
     pub value: u32,
     pub next: usize,
 }
 
-// The number of the field after a tab, and which byte ends that field. Not an `Option`: if the byte after a number is
-// tested again for the next one, the largest plan took 4.9 % more instructions.
+// The number of the field after a tab, and which byte ends that field. Not an `Option`: if the byte
+// after a number is tested again for the next one, the largest plan took 4.9 % more instructions.
 #[derive(Clone, Copy)]
 enum Ended {
     ByTab(FieldNumber),
@@ -46,8 +46,9 @@ enum Ended {
     Neither,
 }
 
-// How the numbers that were read end: they are the last of their line, with the place of the next line; more follows
-// them; or one is missing. `line_at` refuses the last two, `head_at` only the last.
+// How the numbers that were read end: they are the last of their line, with the place of the next
+// line; more follows them; or one is missing. `line_at` refuses the last two, `head_at` only the
+// last.
 #[derive(Clone, Copy)]
 enum Numbers {
     Last(usize),
@@ -86,9 +87,9 @@ fn shifted(value: u32, b: u32) -> Option<u32>
     value.checked_mul(10)?.checked_add(b - ZERO)
 }
 
-// The number whose digits start at a place, and the place where its field ends: each place is compared with the end of
-// the text. Ten turns at most, which the compiler unrolls: it finds that only a tenth digit can exceed 32 bits.
-// Inlined, for check_plan's speed (docs/MEASUREMENTS.md).
+// The number whose digits start at a place, and the place where its field ends: each place is
+// compared with the end of the text. Ten turns at most, which the compiler unrolls: it finds that
+// only a tenth digit can exceed 32 bits. Inlined, for check_plan's speed (docs/MEASUREMENTS.md).
 #[inline(always)]
 fn digits_from(text: &[u8], from: usize) -> Option<FieldNumber>
     requires { from ≤ length text.now }
@@ -116,7 +117,8 @@ fn digits_from(text: &[u8], from: usize) -> Option<FieldNumber>
     Some(FieldNumber { value, next })
 }
 
-// The number of the field after a tab, and the place where that field ends. Inlined, for check_plan's speed (docs/MEASUREMENTS.md).
+// The number of the field after a tab, and the place where that field ends. Inlined, for
+// check_plan's speed (docs/MEASUREMENTS.md).
 #[inline(always)]
 fn tabbed_at(text: &[u8], at: usize) -> Option<FieldNumber>
     ensures { result ≡ tabbed_at text.now at }
@@ -131,7 +133,8 @@ fn tabbed_at(text: &[u8], at: usize) -> Option<FieldNumber>
     digits_from(text, start)
 }
 
-// Reads the numbers after a place where a field ends, in any text. Not inlined, for check_plan's speed (docs/MEASUREMENTS.md).
+// Reads the numbers after a place where a field ends, in any text. Not inlined, for check_plan's
+// speed (docs/MEASUREMENTS.md).
 #[inline(never)]
 fn guarded_numbers_at(text: &[u8], at: usize, out: &mut [u32]) -> Numbers
     requires { field_at text.now at ≡ [] }
@@ -152,11 +155,12 @@ fn guarded_numbers_at(text: &[u8], at: usize, out: &mut [u32]) -> Numbers
     }
 }
 
-// The number of the digits at a place, ten at most, and the place after them, in a text that ends with a line feed. The
-// line feed is the sentinel: the last byte is no digit, so no place is compared with the end. Each of the three
-// functions that rely on it requires it: a struct for such a text would be taken apart in each of them. By index: with
-// an iterator over the rest, which looks for its end at each digit, the largest plan took 24 % more instructions. The
-// compiler unrolls the loop and finds that only a tenth digit can exceed 32 bits.
+// The number of the digits at a place, ten at most, and the place after them, in a text that ends
+// with a line feed. The line feed is the sentinel: the last byte is no digit, so no place is
+// compared with the end. Each of the three functions that rely on it requires it: a struct for such
+// a text would be taken apart in each of them. By index: with an iterator over the rest, which
+// looks for its end at each digit, the largest plan took 24 % more instructions. The compiler
+// unrolls the loop and finds that only a tenth digit can exceed 32 bits.
 fn sentinel_digits_from(text: &[u8], from: usize) -> Option<FieldNumber>
     requires from_in_bounds { from < length text.now }
     requires text_value { get_or text.now (length text.now - 1) 0 ≡ 10 }
@@ -177,8 +181,8 @@ fn sentinel_digits_from(text: &[u8], from: usize) -> Option<FieldNumber>
     })
 }
 
-// The number after the tab at a place, and what ends it: a tab, after which the next number is read without another
-// test, or a line feed.
+// The number after the tab at a place, and what ends it: a tab, after which the next number is read
+// without another test, or a line feed.
 fn sentinel_tabbed_at(text: &[u8], at: usize) -> Ended
     requires at_value { get_or text.now at 0 ≡ 9 }
     requires text_value { get_or text.now (length text.now - 1) 0 ≡ 10 }
@@ -199,7 +203,8 @@ fn sentinel_tabbed_at(text: &[u8], at: usize) -> Ended
     }
 }
 
-// A line feed ends a number: that is the last of its line, if it was the last that was asked for, or one is missing.
+// A line feed ends a number: that is the last of its line, if it was the last that was asked for,
+// or one is missing.
 fn ended_by_line_feed(next: usize, was_last: bool) -> Numbers
     ensures { result ≡ ended_by_line_feed next was_last }
 {
@@ -210,7 +215,8 @@ fn ended_by_line_feed(next: usize, was_last: bool) -> Numbers
     }
 }
 
-// Reads the numbers after a tab in a text that a line feed ends. Not inlined, for check_plan's speed (docs/MEASUREMENTS.md).
+// Reads the numbers after a tab in a text that a line feed ends. Not inlined, for check_plan's
+// speed (docs/MEASUREMENTS.md).
 #[inline(never)]
 fn sentinel_numbers_at(text: &[u8], at: usize, out: &mut [u32]) -> Numbers
     requires at_value { field_at text.now at ≡ [] }
@@ -267,7 +273,7 @@ fn numbers_at(text: &[u8], at: usize, letter: u8, out: &mut [u32]) -> Numbers
     guarded_numbers_at(text, end, out)
 }
 
-// Reads the line of this letter at a place, whose numbers fill `out`.
+/// Reads the line of this letter at a place, whose numbers fill `out`.
 pub fn line_at(text: &[u8], at: usize, letter: u8, out: &mut [u32]) -> Option<usize>
     ensures { Got (record_at letter (length out.old) text.now at)
         (leading_as letter (length out.old) (line_at text.now at))
@@ -279,7 +285,8 @@ pub fn line_at(text: &[u8], at: usize, letter: u8, out: &mut [u32]) -> Option<us
     }
 }
 
-// Reads the beginning of the line of this letter at a place: the numbers that fill `out`, whatever follows them.
+/// Reads the beginning of the line of this letter at a place: the numbers that fill `out`, whatever
+/// follows them.
 pub fn head_at(text: &[u8], at: usize, letter: u8, out: &mut [u32]) -> bool
     ensures { Got (starts_as letter (length out.old) (line_at text.now at))
         (leading_as letter (length out.old) (line_at text.now at))
@@ -370,9 +377,9 @@ fn passed_digits_from(text: &[u8], from: usize) -> FieldNumber
     FieldNumber { value, next: end }
 }
 
-// Reads again a line that has passed, whose numbers fill `out`: none of its bytes is tested but
-// where a number ends. Returns the place of the next line. Not inlined, for check_plan's speed
-// (docs/MEASUREMENTS.md).
+/// Reads again a line that has passed, whose numbers fill `out`: none of its bytes is tested but
+/// where a number ends. Returns the place of the next line. Not inlined, for check_plan's speed
+/// (docs/MEASUREMENTS.md).
 #[inline(never)]
 pub fn passed_line_at(text: &[u8], at: usize, out: &mut [u32]) -> usize
     requires { PassedLine text.now at (length out.old) }
@@ -387,8 +394,8 @@ pub fn passed_line_at(text: &[u8], at: usize, out: &mut [u32]) -> usize
     i + 1
 }
 
-// Number `k` of a line that has passed, from 0, by how many numbers it has; and the place of the
-// next line. No other number is read: what stands before it and behind it is passed by blocks.
+/// Number `k` of a line that has passed, from 0, by how many numbers it has; and the place of the
+/// next line. No other number is read: what stands before it and behind it is passed by blocks.
 pub fn number_at(text: &[u8], at: usize, k: usize, total: usize) -> LineNumber
     requires passed { PassedLine text.now at total }
     requires own { k < total }
@@ -402,6 +409,7 @@ pub fn number_at(text: &[u8], at: usize, k: usize, total: usize) -> LineNumber
     }
 }
 
+/// Whether a place is at the end of a text, or behind it.
 pub fn is_end(text: &[u8], at: usize) -> bool
     ensures { result ≡ at_end text.now at }
 {

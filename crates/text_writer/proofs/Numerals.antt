@@ -75,6 +75,7 @@ spells-field n bs h s =
 pub field_back : (n : ℕ) → n ≤ largest → field_of (numeral 19 n) ≡ Some n
 field_back n h = spells-field n (numeral 19 n) h (numeral-spells 19 n (omega arith))
 
--- what is written is not padded: a number of 64 bits that is not 0 starts with a digit that is not 0 (byte 48)
+-- what is written is not padded: a number of 64 bits that is not 0 starts with a digit that is not
+-- 0 (byte 48)
 pub never-padded : (n : ℕ) → 1 ≤ n → n < 18_446_744_073_709_551_616 → get_or (numeral 19 n) 0 0 ≢ 48
 never-padded n h l = (numeral-spells 19 n (omega arith)).first h

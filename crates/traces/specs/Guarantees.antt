@@ -18,7 +18,8 @@ pub record Keeps (places advances lines : List Float) (spacing : Float) (after :
   pub not-across : (i j : ℕ) → i < length places → j < length lines
       → le (slice_index_or places i nan) (slice_index_or lines j nan) ≡ true
       → le (slice_index_or after i nan) (slice_index_or lines j nan) ≡ true
-  -- one that moves behind a leader ends no further than the leader's last place minus the spacing, rounded once
+  -- one that moves behind a leader ends no further than the leader's last place minus the spacing,
+  -- rounded once
   pub behind-leader : (i : ℕ) → suc i < length places
       → lt (slice_index_or places (suc i) nan) (slice_index_or after (suc i) nan) ≡ true
       → le (slice_index_or after (suc i) nan)

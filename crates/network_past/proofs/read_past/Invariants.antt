@@ -1,4 +1,5 @@
--- `network_past::read_past` meets its contract. The invariant: m lines have passed, and are timed as long as their lengths are valid.
+-- `network_past::read_past` meets its contract. The invariant: m lines have passed, and are timed
+-- as long as their lengths are valid.
 use Rattle.network_past.proofs.Forms.{FormsTo}
 use Rattle.network_past.proofs.read_past.Given as goal
 

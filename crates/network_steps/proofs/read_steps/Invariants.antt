@@ -1,4 +1,5 @@
--- `network_steps::read_steps` meets its contract. The invariant: n lines have passed, and their times and demands are reckoned.
+-- `network_steps::read_steps` meets its contract. The invariant: n lines have passed, and their
+-- times and demands are reckoned.
 use Rattle.network_steps.proofs.Steps.{StepsTo}
 use Rattle.network_steps.proofs.read_steps.Given as goal
 

@@ -1,4 +1,5 @@
--- `network_tables::add_numbers` meets its contract. The invariant: the first k sums have their numbers, and the others are as they were.
+-- `network_tables::add_numbers` meets its contract. The invariant: the first k sums have their
+-- numbers, and the others are as they were.
 use Rattle.network_tables.proofs.Sums.{SummedTo}
 use Rattle.network_tables.proofs.add_numbers.Given as goal
 

@@ -1,4 +1,5 @@
--- `network_tables::read_rows` meets its contract. The invariant: the first k lines of any block that is judged so have passed, and stand in the table.
+-- `network_tables::read_rows` meets its contract. The invariant: the first k lines of any block
+-- that is judged so have passed, and stand in the table.
 use Rattle.std.proofs.Common.{length, ◌≡◌}
 use Rattle.text_reader.specs.Lines.{lines}
 use Rattle.text_reader.specs.Reading.{Starts}

@@ -1,4 +1,5 @@
--- `plan_steps::first_state` meets its contract: the numbers that are cut from the tables are those of the links.
+-- `plan_steps::first_state` meets its contract: the numbers that are cut from the tables are those
+-- of the links.
 use Rattle.base_laws.proofs.Kit.{refl, arith}
 use Rattle.step_rows.proofs.Cuts.{held-cut}
 use Rattle.plan_steps.proofs.Adding.{waiting-sum}

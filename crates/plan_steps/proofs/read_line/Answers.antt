@@ -1,4 +1,5 @@
--- `plan_steps::read_line` meets its contract: the masks of the signals that there are stand in front of their table's.
+-- `plan_steps::read_line` meets its contract: the masks of the signals that there are stand in
+-- front of their table's.
 use Rattle.base_laws.proofs.Kit.{◌≡◌, ◌≢◌, refl, arith, length}
 use Rattle.network_tables.proofs.Rows.{row_joined}
 use Rattle.step_signals.proofs.Cuts.{masks-cut}

@@ -1,4 +1,5 @@
--- `plan_steps::take_steps` meets its contract. The invariant: the state at a boundary is reached, and the ledger has the rows up to it.
+-- `plan_steps::take_steps` meets its contract. The invariant: the state at a boundary is reached,
+-- and the ledger has the rows up to it.
 use Rattle.plan_steps.specs.Steps.{Running}
 use Rattle.plan_steps.proofs.take_steps.Given as goal
 

@@ -1,4 +1,5 @@
--- `plancheck_io::read_open` ends: each turn but the last fills more of the buffer, with what the file had next.
+-- `plancheck_io::read_open` ends: each turn but the last fills more of the buffer, with what the
+-- file had next.
 use Rattle.base_laws.proofs.Kit.{◌-◌, ◌≤◌, ◌≡◌, length, take}
 use Rattle.std.specs.Io.KnownBytes.{Consumes}
 use Rattle.plancheck_io.proofs.read_open.Given as goal

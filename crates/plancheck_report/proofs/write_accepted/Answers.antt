@@ -1,4 +1,5 @@
--- `plancheck_report::write_accepted` meets its contract: the `B` records stand behind the `A` record.
+-- `plancheck_report::write_accepted` meets its contract: the `B` records stand behind the `A`
+-- record.
 use Rattle.std.proofs.Common.{rules}
 use Rattle.plancheck_report.proofs.Answer.{rows-asked, accepted-wrote}
 use Rattle.text_writer.proofs.Laws.{record-fits}

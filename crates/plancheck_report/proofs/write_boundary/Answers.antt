@@ -1,4 +1,5 @@
--- `plancheck_report::write_boundary` meets its contract: what is lent to `write_record` is the number, the time and the row.
+-- `plancheck_report::write_boundary` meets its contract: what is lent to `write_record` is the
+-- number, the time and the row.
 use Rattle.base_laws.proofs.Kit.{arith}
 use Rattle.plancheck_report.proofs.Boundaries.{fields_read}
 use Rattle.text_writer.proofs.Laws.{record-fits}

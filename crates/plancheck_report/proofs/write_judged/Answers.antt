@@ -1,4 +1,5 @@
--- `plancheck_report::write_judged` meets its contract: the answer and the ledger of the judgement tell the report.
+-- `plancheck_report::write_judged` meets its contract: the answer and the ledger of the judgement
+-- tell the report.
 use Rattle.std.proofs.Common.{rules}
 use Rattle.base_laws.proofs.Kit.{ℕ, length-replicate}
 use Rattle.plancheck_report.specs.Boundaries.{ledger_size}

@@ -1,4 +1,5 @@
--- `plancheck_report::write_rows` meets its contract. The invariant: the records of the first n boundaries are written.
+-- `plancheck_report::write_rows` meets its contract. The invariant: the records of the first n
+-- boundaries are written.
 use Rattle.plancheck_report.proofs.Boundaries.{Written}
 use Rattle.plancheck_report.proofs.write_rows.Given as goal
 

@@ -1,4 +1,5 @@
--- `sheet_check::check_runs` meets its contract. The loop's invariant: the least line of the first i signals, and its signal.
+-- `sheet_check::check_runs` meets its contract. The loop's invariant: the least line of the first i
+-- signals, and its signal.
 use Rattle.base_laws.proofs.Kit.{length}
 use Rattle.sheet_check.specs.Watch.{watch_in}
 use Rattle.sheet_check.proofs.Watching.{Found}

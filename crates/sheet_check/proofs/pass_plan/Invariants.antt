@@ -1,4 +1,5 @@
--- `sheet_check::pass_plan` meets its contract. The loop's invariant: the steps up to a boundary are gone through.
+-- `sheet_check::pass_plan` meets its contract. The loop's invariant: the steps up to a boundary are
+-- gone through.
 use Rattle.base_laws.proofs.Kit.{◌≡◌}
 use Rattle.sheet_check.proofs.Call.{Passing}
 use Rattle.sheet_check.proofs.pass_plan.Given as goal

@@ -1,4 +1,5 @@
--- `sheet_check::watch_signals` meets its contract. The loop's invariant: the watches of the first i signals are a step on.
+-- `sheet_check::watch_signals` meets its contract. The loop's invariant: the watches of the first i
+-- signals are a step on.
 use Rattle.sheet_check.specs.Watch.{Watched}
 use Rattle.sheet_check.proofs.watch_signals.Given as goal
 

@@ -1,4 +1,5 @@
--- `sheet_lines::valid_numbers` meets its contract. The loop's invariant: the durations of the first k phases are valid and summed.
+-- `sheet_lines::valid_numbers` meets its contract. The loop's invariant: the durations of the first
+-- k phases are valid and summed.
 use Rattle.sheet_lines.specs.Reading.{number_in}
 use Rattle.sheet_lines.proofs.Lines.{Summed}
 use Rattle.sheet_lines.proofs.valid_numbers.Given as goal

@@ -1,4 +1,5 @@
--- `step_check::first_break` meets its contract. The loops' invariants: nothing is found so far, and every rule before the one at hand is kept.
+-- `step_check::first_break` meets its contract. The loops' invariants: nothing is found so far, and
+-- every rule before the one at hand is kept.
 use Rattle.base_laws.proofs.Kit.{◌≤◌, ◌≡◌}
 use Rattle.base_search.proofs.Table.{RulesKept, ItemsKept}
 use Rattle.step_check.specs.Step.{step_rules_in}

@@ -1,4 +1,5 @@
--- `step_limits::links_within_limits` meets its contract. The invariant: the first i links keep their limits, and the row has begun with them.
+-- `step_limits::links_within_limits` meets its contract. The invariant: the first i links keep
+-- their limits, and the row has begun with them.
 use Rattle.std.specs.Prelude.{◌≤◌}
 use Rattle.step_rows.specs.Rows.{RowAlone}
 use Rattle.step_limits.specs.Limits.{LinksPassed}

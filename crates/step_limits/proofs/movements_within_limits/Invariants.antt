@@ -1,4 +1,6 @@
--- `step_limits::movements_within_limits` meets its contract. The invariant: the first j movements keep their limits in proportion, and have been added to the row; the volume of the last is at hand.
+-- `step_limits::movements_within_limits` meets its contract. The invariant: the first j movements
+-- keep their limits in proportion, and have been added to the row; the volume of the last is at
+-- hand.
 use Rattle.std.specs.Prelude.{◌≡◌, ◌-◌, ◌≤◌}
 use Rattle.network_tables.specs.Fields.{moved_in}
 use Rattle.step_rows.specs.Rows.{RowAlone}

@@ -1,4 +1,5 @@
--- `step_past::find_steps` meets its contract. The invariant: the steps of the first i links are found.
+-- `step_past::find_steps` meets its contract. The invariant: the steps of the first i links are
+-- found.
 use Rattle.step_past.proofs.Keeping.{FindingTo}
 use Rattle.step_past.proofs.find_steps.Given as goal
 

@@ -1,4 +1,5 @@
--- `step_past::keep_curves` meets its contract. The invariant: the curves of the first i links are kept.
+-- `step_past::keep_curves` meets its contract. The invariant: the curves of the first i links are
+-- kept.
 use Rattle.step_past.proofs.Keeping.{KeepingTo}
 use Rattle.step_past.proofs.keep_curves.Given as goal
 

@@ -1,4 +1,5 @@
--- `step_past::load_past` meets its contract. The invariant: the row at boundary `step` of the timeline, and the curves of the links whose travel time ends before it.
+-- `step_past::load_past` meets its contract. The invariant: the row at boundary `step` of the
+-- timeline, and the curves of the links whose travel time ends before it.
 use Rattle.step_past.proofs.Loading.{PastTo}
 use Rattle.step_past.proofs.load_past.Given as goal
 

@@ -1,4 +1,5 @@
--- `step_past::move_by_lines` meets its contract. The invariant: link i is not past its step, nor is a link behind it.
+-- `step_past::move_by_lines` meets its contract. The invariant: link i is not past its step, nor is
+-- a link behind it.
 use Rattle.base_laws.proofs.Kit.{◌-◌}
 use Rattle.step_past.specs.Curves.{arrival_at}
 use Rattle.step_past.proofs.Moving.{PastTo}

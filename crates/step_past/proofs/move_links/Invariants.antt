@@ -1,4 +1,5 @@
--- `step_past::move_links` meets its contract. The invariant: the links before i are moved on by the line.
+-- `step_past::move_links` meets its contract. The invariant: the links before i are moved on by the
+-- line.
 use Rattle.step_past.proofs.Moving.{MovingTo}
 use Rattle.step_past.proofs.move_links.Given as goal
 

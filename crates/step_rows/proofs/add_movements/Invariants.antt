@@ -1,4 +1,5 @@
--- `step_rows::add_movements` meets its contract. The invariant: the first j movements have been added to the row.
+-- `step_rows::add_movements` meets its contract. The invariant: the first j movements have been
+-- added to the row.
 use Rattle.step_rows.specs.Rows.{Added}
 use Rattle.step_rows.proofs.add_movements.Given as goal
 

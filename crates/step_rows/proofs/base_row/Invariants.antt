@@ -1,4 +1,5 @@
--- `step_rows::base_row` meets its contract. The invariant: the row has begun with the first i links.
+-- `step_rows::base_row` meets its contract. The invariant: the row has begun with the first i
+-- links.
 use Rattle.base_laws.proofs.Kit.{◌++◌, ◌≡◌, ◌*◌, ◌≤◌, length, drop}
 use Rattle.network_tables.specs.Fields.{row_size}
 use Rattle.step_rows.specs.Rows.{pairs, base_entered, base_left}

@@ -1,4 +1,5 @@
--- `step_rows::first_waiting` meets its contract. The invariant: who waits at the first i entries is known.
+-- `step_rows::first_waiting` meets its contract. The invariant: who waits at the first i entries is
+-- known.
 use Rattle.step_rows.specs.Waiting.{FirstWaits}
 use Rattle.step_rows.proofs.first_waiting.Given as goal
 

@@ -1,4 +1,5 @@
--- `step_rows::next_waiting` meets its contract. The invariant: the first i links have who waits after the step.
+-- `step_rows::next_waiting` meets its contract. The invariant: the first i links have who waits
+-- after the step.
 use Rattle.base_laws.proofs.Kit.{ℕ, ◌-◌, ◌<◌, ◌≡◌}
 use Rattle.network_tables.specs.Fields.{admitted_in}
 use Rattle.step_rows.specs.Waiting.{waiting_in, offer_in}

@@ -1,4 +1,5 @@
--- `step_signals::advance` meets its contract. The loop's invariant: of the table's part the first r signals are a step on, the others as they were.
+-- `step_signals::advance` meets its contract. The loop's invariant: of the table's part the first r
+-- signals are a step on, the others as they were.
 use Rattle.step_signals.proofs.Cuts.{AdvancedTo}
 use Rattle.step_signals.proofs.advance.Given as goal
 

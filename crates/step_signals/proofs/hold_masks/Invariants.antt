@@ -1,4 +1,5 @@
--- `step_signals::hold_masks` meets its contract. The loop's invariant: the masks of the first i signals are written.
+-- `step_signals::hold_masks` meets its contract. The loop's invariant: the masks of the first i
+-- signals are written.
 use Rattle.base_laws.proofs.Kit.{◌≤◌, length}
 use Rattle.step_signals.specs.Step.{HeldMasks}
 use Rattle.step_signals.proofs.hold_masks.Given as goal

@@ -1,4 +1,5 @@
--- `step_signals::keeps_ordinary_rules` meets its contract: what it calls gives the definition's parts.
+-- `step_signals::keeps_ordinary_rules` meets its contract: what it calls gives the definition's
+-- parts.
 use Rattle.std.proofs.Common.{rules}
 use Rattle.base_laws.specs.Test.{◌and◌}
 use Rattle.step_signals.specs.Rules.{keeps_ordinary_rules}

@@ -1,4 +1,5 @@
--- `text_reader::guarded_numbers_at` meets its contract. The invariant: k numbers are stored, and the next would be read from i.
+-- `text_reader::guarded_numbers_at` meets its contract. The invariant: k numbers are stored, and
+-- the next would be read from i.
 use Rattle.text_reader.proofs.Turns.{Stored}
 use Rattle.text_reader.proofs.guarded_numbers_at.Given as goal
 

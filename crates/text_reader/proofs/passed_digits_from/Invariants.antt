@@ -1,4 +1,5 @@
--- `text_reader::passed_digits_from` meets its contract. The invariant: the first k digits say `value`.
+-- `text_reader::passed_digits_from` meets its contract. The invariant: the first k digits say
+-- `value`.
 use Rattle.text_reader.proofs.PassedDigits.{DigitsTo}
 use Rattle.text_reader.proofs.passed_digits_from.Given as goal
 

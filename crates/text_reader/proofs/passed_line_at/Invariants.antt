@@ -1,4 +1,5 @@
--- `text_reader::passed_line_at` meets its contract. The invariant: k numbers are stored, and the others are left from i on.
+-- `text_reader::passed_line_at` meets its contract. The invariant: k numbers are stored, and the
+-- others are left from i on.
 use Rattle.text_reader.proofs.Again.{LineTo}
 use Rattle.text_reader.proofs.passed_line_at.Given as goal
 

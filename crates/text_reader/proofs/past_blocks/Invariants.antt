@@ -1,4 +1,5 @@
--- `text_reader::past_blocks` meets its contract. The invariant: so many fields are left to be passed from the place on.
+-- `text_reader::past_blocks` meets its contract. The invariant: so many fields are left to be
+-- passed from the place on.
 use Rattle.base_laws.proofs.Kit.{◌-◌, length}
 use Rattle.text_reader.specs.Passing.{Passing}
 use Rattle.text_reader.proofs.past_blocks.Given as goal

@@ -1,4 +1,5 @@
--- `text_reader::sentinel_numbers_at` meets its contract. The invariant: k numbers are stored, and a tab stands at i.
+-- `text_reader::sentinel_numbers_at` meets its contract. The invariant: k numbers are stored, and a
+-- tab stands at i.
 use Rattle.base_laws.proofs.Kit.{◌≡◌, get_or}
 use Rattle.text_reader.proofs.Turns.{Stored}
 use Rattle.text_reader.proofs.sentinel_numbers_at.Given as goal

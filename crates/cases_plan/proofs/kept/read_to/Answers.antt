@@ -1,4 +1,5 @@
--- `cases_plan::kept::read_to` meets its contract: what is given stands behind its length, and is kept.
+-- `cases_plan::kept::read_to` meets its contract: what is given stands behind its length, and is
+-- kept.
 use Rattle.std.proofs.Common.{inr, refl, rules, arith}
 use Rattle.std.proofs.lemmas.Grind.{common_steps}
 use Rattle.cases_plan.proofs.kept.read_to.Goals as goal

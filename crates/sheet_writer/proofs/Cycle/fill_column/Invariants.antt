@@ -1,4 +1,5 @@
--- `sheet_writer::Cycle::fill_column` meets its contract. The loop's invariant: the first n steps fit, and their masks are set.
+-- `sheet_writer::Cycle::fill_column` meets its contract. The loop's invariant: the first n steps
+-- fit, and their masks are set.
 use Rattle.sheet_lines.specs.Reading.{number_in}
 use Rattle.sheet_writer.proofs.Columns.{ColumnTo}
 use Rattle.sheet_writer.proofs.Cycle.fill_column.Given as goal

@@ -1,4 +1,5 @@
--- `sheet_writer::Cycle::first_run` meets its contract. The loop's invariant: the first k durations are off the offset.
+-- `sheet_writer::Cycle::first_run` meets its contract. The loop's invariant: the first k durations
+-- are off the offset.
 use Rattle.base_laws.proofs.Kit.{◌-◌}
 use Rattle.sheet_lines.specs.Reading.{number_in}
 use Rattle.sheet_writer.proofs.Runs.{Run-off}

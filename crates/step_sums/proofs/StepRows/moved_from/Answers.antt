@@ -1,4 +1,5 @@
--- What left in the row holds beside the row before and the let-out volume is the sum of the movements.
+-- What left in the row holds beside the row before and the let-out volume is the sum of the
+-- movements.
 use Rattle.base_laws.proofs.Kit.{arith}
 use Rattle.step_sums.proofs.Turns.{share-room}
 use Rattle.step_sums.proofs.StepRows.moved_from.Goals as goal
