@@ -8,7 +8,8 @@ use native.Mathlib.Numerals.{add-one}
 use native.Mathlib.Omega.{arith}
 use lib.ListN.{length, get_or, set, take, drop, length-append, get_or-append, drop_of_length-le}
 use lib.Seq.{drop-cons, take_at, drop_at, set_at, get_or_at, get_or-append-add, get_or-drop}
-use Rattle.base_laws.specs.Indexed.{list, filled}
+use Rattle.base_laws.specs.Indexed.{list}
+use Rattle.base_laws.specs.Filled.{filled}
 
 pub length_none : {A : Type 0} (xs : List A) → length xs ≡ 0 → xs ≡ []
 length_none [] e = refl

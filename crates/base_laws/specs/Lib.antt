@@ -1,3 +1,4 @@
 pub mod Test
 pub mod Sum
 pub mod Indexed
+pub mod Filled

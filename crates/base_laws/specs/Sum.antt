@@ -1,4 +1,4 @@
--- Sums by index, and lists one behind the other.
+-- Believed: sums by index, and lists one behind the other.
 use Rattle.std.specs.Prelude.{ℕ, zero, suc, ◌+◌, Bool, true, false, List, [], ◌++◌}
 
 -- f 0 + .. + f (n - 1)

@@ -1,5 +1,5 @@
--- Conjunction and disjunction. Unlike `◌&&◌` and `◌||◌` they do not unfold by themselves, so that a
--- proof can take a test apart.
+-- Believed: conjunction and disjunction. Unlike `◌&&◌` and `◌||◌` they do not unfold by themselves,
+-- so that a proof can take a test apart.
 use Rattle.std.specs.Prelude.{Bool, true, ◌&&◌, ◌||◌, ℕ, zero, suc, nat_le}
 
 infixl 35 ◌and◌

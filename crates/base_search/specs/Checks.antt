@@ -1,4 +1,4 @@
--- Checks in order, and the first of them that is broken.
+-- Believed: checks in order, and the first of them that is broken.
 use Rattle.std.specs.Prelude.{◌≡◌, Result, Ok, Err, Bool, true, false, ◌⊎◌, List, ℕ, zero, suc, ◌+◌, ◌<◌, length, slice_index_or}
 use Rattle.base_search.specs.declared.Refusal.{Refusal}
 

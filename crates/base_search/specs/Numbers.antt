@@ -1,4 +1,4 @@
--- The numbers with which a call refuses.
+-- Believed: the numbers with which a call refuses.
 use Rattle.std.specs.Prelude.{ℕ, ◌≤◌, ◌≡◌, Bool, true, false, ◌||◌, List, [], ◌∷◌, ◌==◌}
 
 -- whether a number is one of these

@@ -1,4 +1,4 @@
--- The numbers of refusals, by their reasons.
+-- Inner: the numbers of refusals, by their reasons.
 use Rattle.std.specs.Prelude.{ℕ}
 use Rattle.base_search.specs.declared.Reason.{Reason}
 use Rattle.base_search.specs.declared.Reason.TheVariants.{NetworkForm, Counts, Signal, Link, Movement, Step, Ledger, PlanForm, StateBoundary, StateLink, StateLedger, ListingLine, ListingVolume, PlanRoom, Tram, Past, CarryBoundary, CarriedRoom, SheetLine, SheetRun, SheetCycle, CorridorLine, CellStart, VehicleValue, VehicleCounts, SplitNetwork, SplitSignals, SplitRoom}

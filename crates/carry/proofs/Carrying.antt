@@ -29,7 +29,8 @@ use Rattle.plan_steps.specs.declared.State.{State}
 use Rattle.plan_steps.specs.Steps as steps
 use Rattle.plan_steps.proofs.Runs.{lines-within}
 use Rattle.plan_steps.proofs.Ledger.{written-again}
-use Rattle.model_text.specs.Answers.{text_answer, bytes_after, room_verdict, Told}
+use Rattle.model_text.specs.Answers.{text_answer, bytes_after}
+use Rattle.model_text.specs.Told.{room_verdict, Told}
 use Rattle.carry.specs.declared.Standing.{Standing}
 use Rattle.carry.specs.Carried.{StandsAt, CarryAsked, TextWritten}
 use Rattle.model_carry.specs.Part.{cut, carried_text}
@@ -40,7 +41,8 @@ use Rattle.model_carry.proofs.Hold.{held_first}
 use Rattle.model_carry.specs.CarriesOn.{CarriedOn}
 use Rattle.model_carry.proofs.Promises.{carried_on}
 use Rattle.model_carry.proofs.Agree.{signal-agree, waits-agree}
-use Rattle.carry.specs.Carrying.{StepsAsked, CarryGot}
+use Rattle.carry.specs.Carrying.{CarryGot}
+use Rattle.carry.specs.Asked.{StepsAsked}
 use Rattle.base_laws.proofs.Tests.{is_within}
 use Rattle.std.specs.Prelude.{Result, Ok, Err}
 

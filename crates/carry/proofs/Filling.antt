@@ -1,13 +1,13 @@
 -- Rows by the program's tables: a signal's numbers, and a step's volumes by the ledger.
 use Rattle.base_laws.proofs.Kit.{ℕ, zero, suc, ◌+◌, ◌*◌, ◌-◌, ◌≤◌, ◌<◌, ◌≡◌, refl, ap, ◌∙◌, List, [], ◌∷◌, ◌++◌, append_assoc, add-one, arith, length, get_or, set, take, length-append, length-set}
-use Rattle.text_reader.specs.Reading.{over}
+use Rattle.base_laws.specs.Indexed.{over}
 use Rattle.model.specs.declared.Signal.{Signal}
 use Rattle.base_laws.specs.Sum.{joined}
 use Rattle.network_tables.specs.Fields.{past_size, entered_at, left_at}
 use Rattle.model_carry.specs.Part.{signal_numbers}
 use Rattle.model_carry.proofs.Parts.{pairs-length}
 use Rattle.network_writer.proofs.Filling.{over-next}
-use Rattle.model.specs.Signals.{signal_row}
+use Rattle.model.specs.SignalRows.{signal_row}
 use Rattle.carry.specs.Rows.{volumes_in, VolumesAsked}
 
 over-pair : (a old : List ℕ) (x y n m : ℕ) → length a ≡ n → m ≡ n + 1 → m < length old → set (set (over a old) n x) m y ≡ over (a ++ (x ∷ y ∷ [])) old

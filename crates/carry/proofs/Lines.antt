@@ -4,7 +4,7 @@ use Rattle.std.specs.Prelude.{Option, Some}
 use Rattle.base_laws.proofs.Kit.{ℕ, ◌+◌, ◌*◌, ◌<◌, ◌≡◌, ap, ◌∙◌, List, [], ◌∷◌, length, get_or, take}
 use Rattle.text_writer.specs.Records.{record_text}
 use Rattle.model.specs.declared.Signal.{Signal}
-use Rattle.model.specs.Signals.{signal_row}
+use Rattle.model.specs.SignalRows.{signal_row}
 use Rattle.model.specs.Table.{letter_g}
 use Rattle.network_tables.specs.declared.Link.{Link}
 use Rattle.network_tables.specs.declared.Movement.{Movement}

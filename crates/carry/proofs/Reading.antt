@@ -1,10 +1,10 @@
 -- Lines that have passed, read again and put as they are.
 use Rattle.base_laws.proofs.Kit.{ℕ, suc, ◌+◌, ◌*◌, ◌≤◌, ◌<◌, ◌≡◌, refl, ap, ◌∙◌, true, List, ◌∷◌, ◌++◌, arith, length, get_or, take, drop}
 use Rattle.text_reader.specs.Lines.{lines}
-use Rattle.text_reader.specs.Reading.{Starts, over}
+use Rattle.text_reader.specs.Reading.{Starts}
+use Rattle.base_laws.specs.Indexed.{over, list}
 use Rattle.text_writer.specs.Records.{record_text, record_texts}
 use Rattle.base_laws.specs.Sum.{joined}
-use Rattle.base_laws.specs.Indexed.{list}
 use Rattle.model.specs.Network.{max_links, entry}
 use Rattle.model.specs.Table.{is_form, letter_h, letter_s}
 use Rattle.network_tables.specs.Fields.{past_size}

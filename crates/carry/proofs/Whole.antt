@@ -1,13 +1,13 @@
 -- The lines that are put, one block behind another, are the carried network's.
 use Rattle.base_laws.proofs.Kit.{ℕ, zero, suc, ◌+◌, ◌*◌, ◌-◌, ◌≤◌, ◌<◌, ◌≡◌, refl, sym, ap, ap₂, ◌∙◌, true, List, [], ◌∷◌, ◌++◌, append_assoc, append-nil, add-one, arith, leb-true, length, get_or, get_or-take, take, drop, length-take, length-take-le}
 use Rattle.text_reader.specs.Lines.{Line, lines}
-use Rattle.text_reader.specs.Reading.{Starts, over}
+use Rattle.text_reader.specs.Reading.{Starts}
+use Rattle.base_laws.specs.Indexed.{over, list}
 use Rattle.text_writer.specs.Records.{record_text, record_texts}
 use Rattle.text_writer.proofs.Laws.{records-same}
 use Rattle.model.specs.declared.Signal.{Signal}
 use Rattle.base_laws.specs.Test.{within}
 use Rattle.base_laws.specs.Sum.{joined}
-use Rattle.base_laws.specs.Indexed.{list}
 use Rattle.model.specs.Network.{entry, link_count, signal_count, movement_count, step_count, tram_count, past_count, on_timeline, tram_line, timeline_line, step_line, trams as tram_lines, timeline_length, past_entries, past_exits, step_length, demand}
 use Rattle.model.specs.Rules.{tram_exists, valid_tram, valid_phases}
 use Rattle.model.specs.Flows.{signal_at, timeline_inflow, timeline_outflow, entered, left}

@@ -1,4 +1,4 @@
--- What the functions that write a carried network require and promise.
+-- Inner: what the functions that write a carried network require and promise.
 use Rattle.std.specs.Prelude.{ℕ, suc, ◌*◌, ◌≤◌, ◌<◌, ◌≡◌, List, length, slice_index, Result}
 use Rattle.text_reader.specs.Lines.{Line, lines}
 use Rattle.model.specs.declared.Signal.{Signal}
@@ -8,7 +8,7 @@ use Rattle.model.specs.Calls.{written}
 use Rattle.network_tables.specs.declared.NetworkTables.{NetworkTables}
 use Rattle.network_tables.specs.Fields as fields
 use Rattle.network.specs.Loading.{TablesLoaded}
-use Rattle.model_text.specs.Answers.{room_verdict, Told}
+use Rattle.model_text.specs.Told.{room_verdict, Told}
 use Rattle.model_carry.specs.Part.{carried_text}
 use Rattle.network_writer.specs.Put.{PutWhole}
 use Rattle.base_search.specs.declared.Refusal.{Refusal}

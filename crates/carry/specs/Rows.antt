@@ -1,5 +1,5 @@
--- The lines of the carried network by the program's tables, and what the functions that put them
--- require and promise.
+-- Inner: the lines of the carried network by the program's tables, and what the functions that put
+-- them require and promise.
 use Rattle.std.specs.Prelude.{ℕ, suc, ◌+◌, ◌*◌, ◌-◌, ◌≤◌, ◌<◌, ◌≡◌, true, List, [], ◌∷◌, length, slice_index}
 use Rattle.text_reader.specs.Lines.{lines}
 use Rattle.text_reader.specs.Reading.{Starts}

@@ -1,4 +1,4 @@
--- What is left of the trams after a boundary.
+-- Inner: what is left of the trams after a boundary.
 use Rattle.std.specs.Prelude.{ℕ, suc, ◌-◌, max, if◌then◌else◌, List, [], ◌∷◌, nat_lt}
 use Rattle.network_tables.specs.declared.Tram.{Tram}
 use Rattle.network_tables.specs.Fields.{tram_at}

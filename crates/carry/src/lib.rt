@@ -5,7 +5,7 @@
 ghost use Rattle.std.specs.Prelude.{◌≡◌, ◌∷◌, ◌<◌, ◌≤◌, length, get_or, map, option_to_list};
 ghost use Rattle.text_reader.specs.Lines.{lines};
 ghost use Rattle.text_reader.specs.Padding.{PaddingIgnored};
-ghost use Rattle.text_reader.specs.Reading.{over};
+ghost use Rattle.base_laws.specs.Indexed.{over};
 ghost use Rattle.text_writer.specs.Records.{record_texts};
 ghost use Rattle.base_laws.specs.Sum.{joined};
 ghost use Rattle.model.specs.Network.{max_trams};
@@ -18,7 +18,8 @@ ghost use Rattle.model_carry.specs.Call.{planned_on};
 ghost use Rattle.model_carry.specs.CarriesOn.{CarriedOn};
 ghost use Rattle.model_carry.specs.Part.{signal_numbers};
 ghost use Rattle.network_writer.specs.Put.{Put, Early};
-ghost use Rattle.carry.specs.Carrying.{StepsAsked, CarryGot};
+ghost use Rattle.carry.specs.Carrying.{CarryGot};
+ghost use Rattle.carry.specs.Asked.{StepsAsked};
 ghost use Rattle.carry.specs.Rows.{count_row, volumes_in, Copied, SignalsAsked, VolumesAsked, StepsPutAsked, StepsPut};
 ghost use Rattle.carry.specs.Carried.{CarryAsked, TextPut, TextWritten};
 ghost use Rattle.carry.specs.Trams.{left_of};

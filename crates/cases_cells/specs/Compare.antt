@@ -1,4 +1,4 @@
--- When the answer and the volumes of a run are those that were stored.
+-- Inner: when the answer and the volumes of a run are those that were stored.
 use Rattle.std.specs.Prelude.{ℕ, Bool, ◌&&◌, List, nat_eq, Result}
 use Rattle.std.specs.Cmp.Lexicographic.{pointwise}
 use Rattle.base_search.specs.declared.Refusal.{Refusal}

@@ -1,4 +1,4 @@
--- The answer of a run in the stored form.
+-- Inner: the answer of a run in the stored form.
 use Rattle.std.specs.Prelude.{ℕ, Bool, ◌&&◌, ◌==◌, List, ◌++◌, Result, Ok, Err, Some, None}
 use Rattle.std.specs.Int.{w32, w64, to_le_bytes}
 use Rattle.std.specs.Result.{result_eq}

@@ -2,7 +2,7 @@
 // reference/src/cases/corridor_file.rs.
 ghost use Rattle.std.specs.Prelude.{◌≡◌, IfOk};
 ghost use Rattle.std.specs.Io.KnownBytes.{Consumes};
-ghost use Rattle.cells_call.specs.Call.{volumes_in};
+ghost use Rattle.cells_call.specs.Volumes.{volumes_in};
 ghost use Rattle.cases_cells.specs.Reported.{reported_of, reported_bytes};
 
 use base_search::Refusal;

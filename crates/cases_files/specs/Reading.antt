@@ -1,4 +1,4 @@
--- What is read item by item.
+-- Inner: what is read item by item.
 use Rattle.std.specs.Prelude.{◌≡◌, List, Result, Ok}
 use Rattle.std.specs.Borrow.{MutBor}
 use Rattle.std.specs.List.{FoldsTo}

@@ -1,4 +1,4 @@
--- Refusals in the stored form.
+-- Inner: refusals in the stored form.
 use Rattle.std.specs.Prelude.{ℕ, Bool, ◌&&◌, ◌==◌, List, ◌++◌, Option, Some, None, Result}
 use Rattle.std.specs.Int.{w32, to_le_bytes}
 use Rattle.std.specs.Option.{option_eq}

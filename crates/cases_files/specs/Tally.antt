@@ -1,4 +1,4 @@
--- Where a case is counted.
+-- Inner: where a case is counted.
 use Rattle.std.specs.Prelude.{ℕ, ◌+◌, ◌==◌, Bool, true, false, List, length, Option, Some, None}
 use Rattle.std.specs.List.{position_or_len}
 use Rattle.base_search.specs.declared.Refusal.{Refusal}

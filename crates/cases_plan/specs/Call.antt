@@ -1,4 +1,4 @@
--- The calls by their numbers in the stored form.
+-- Inner: the calls by their numbers in the stored form.
 use Rattle.std.specs.Prelude.{ℕ, ◌≡◌, ◌≤◌, ◌<◌, Result, MatchResult}
 use Rattle.cases_files.specs.declared.reading.Malformed.{Malformed}
 use Rattle.cases_plan.specs.declared.call.Call.{Call}

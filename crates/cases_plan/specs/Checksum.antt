@@ -1,5 +1,5 @@
--- FNV-1a of 64 bits over the numbers of two ledgers, each as four bytes, the lowest first, then
--- over the bytes of a buffer.
+-- Inner: FNV-1a of 64 bits over the numbers of two ledgers, each as four bytes, the lowest first,
+-- then over the bytes of a buffer.
 use Rattle.std.specs.Prelude.{ℕ, ◌*◌, ◌%◌, ◌^◌, List, bit_xor, fold}
 use Rattle.std.specs.Int.{w32, to_le_bytes}
 

@@ -1,4 +1,4 @@
--- What the definitions say of a call, and when that is what was stored.
+-- Inner: what the definitions say of a call, and when that is what was stored.
 use Rattle.std.specs.Prelude.{ℕ, Bool, ◌&&◌, ◌==◌, List, length}
 use Rattle.text_reader.specs.Lines.{Line, lines}
 use Rattle.model.specs.Hold.{plan_of}

@@ -1,4 +1,4 @@
--- What a case gives, or takes over from the case before.
+-- Inner: what a case gives, or takes over from the case before.
 use Rattle.std.specs.Prelude.{ℕ, ◌≡◌, ◌⊎◌, ◌^◌, ◌-◌, List, length, take, Option, Some, None, Result, Ok}
 use Rattle.std.specs.Borrow.{MutBor}
 use Rattle.std.specs.Int.{w32, to_le_bytes}

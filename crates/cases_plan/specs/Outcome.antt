@@ -1,4 +1,4 @@
--- The answers of the calls in the stored form.
+-- Inner: the answers of the calls in the stored form.
 use Rattle.std.specs.Prelude.{ℕ, suc, ◌-◌, ◌^◌, Bool, ◌&&◌, ℤ, pos, negsuc, ◌==◌, Result, Ok, Err}
 use Rattle.base_search.specs.declared.Refusal.{Refusal}
 use Rattle.base_search.specs.Checks.{Verdict}

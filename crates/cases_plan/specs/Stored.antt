@@ -1,4 +1,4 @@
--- The parts of a case in the stored form.
+-- Inner: the parts of a case in the stored form.
 use Rattle.std.specs.Prelude.{ℕ, ◌≡◌, ◌≤◌, ◌^◌, ◌⊎◌, List, [], ◌++◌, length, drop, replicate, Option, MatchOption}
 use Rattle.std.specs.Int.{w32, w64, to_le_bytes}
 use Rattle.cases_plan.specs.Call.{call_number}

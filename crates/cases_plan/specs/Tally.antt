@@ -1,4 +1,4 @@
--- Where a case is counted.
+-- Inner: where a case is counted.
 use Rattle.std.specs.Prelude.{ℕ, ◌+◌, ◌*◌, ◌-◌, ◌==◌, nat_lt, Bool, ◌&&◌, if◌then◌else◌}
 use Rattle.cases_plan.specs.Call.{call_number}
 use Rattle.cases_plan.specs.declared.call.Call.{Call}

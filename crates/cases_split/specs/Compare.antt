@@ -1,4 +1,4 @@
--- What the definitions say of a split, and when it is what was stored.
+-- Inner: what the definitions say of a split, and when it is what was stored.
 use Rattle.std.specs.Prelude.{ℕ, Bool, true, false, ◌&&◌, ◌==◌, Option, Some, None, Result, if◌then◌else◌}
 use Rattle.std.specs.Option.{option_eq}
 use Rattle.std.specs.Result.{result_ok}

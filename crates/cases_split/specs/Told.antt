@@ -1,4 +1,4 @@
--- The answer of a split and its texts in the stored form.
+-- Inner: the answer of a split and its texts in the stored form.
 use Rattle.std.specs.Prelude.{Bool, ◌&&◌, ◌==◌, nat_eq, List, ◌++◌, ℕ}
 use Rattle.std.specs.List.{starts_with}
 use Rattle.std.specs.Int.{w32, to_le_bytes}

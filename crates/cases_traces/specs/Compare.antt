@@ -1,4 +1,4 @@
--- When the answer and the places of a step are those that were stored.
+-- Inner: when the answer and the places of a step are those that were stored.
 use Rattle.std.specs.Prelude.{Bool, ◌&&◌, List, Option, Result, Float}
 use Rattle.base_search.specs.declared.Refusal.{Refusal}
 use Rattle.cases_files.specs.Refusals.{refused_by, same_refusal}

@@ -1,5 +1,5 @@
--- When values are the same: by their bits, where a NaN is one value and zeros of either sign are
--- two.
+-- Inner: when values are the same: by their bits, where a NaN is one value and zeros of either sign
+-- are two.
 use Rattle.std.specs.Prelude.{ℕ, ◌≡◌, Option, Bool, ◌&&◌, ◌==◌, List, length, Float}
 use Rattle.std.specs.List.{list_all, zip, FoldsTo}
 use Rattle.std.specs.Float.{binary64}

@@ -7,7 +7,8 @@ use Rattle.base_search.specs.Checks.{verdict}
 use Rattle.text_reader.specs.Lines.{lines}
 use Rattle.cells_steps.specs.declared.Cell.{Cell}
 use Rattle.cells_steps.specs.declared.Passed.{Passed}
-use Rattle.cells_steps.specs.Steps.{chain_of, volumes_after, Ready}
+use Rattle.cells_steps.specs.Steps.{chain_of, volumes_after}
+use Rattle.cells_steps.specs.Ready.{Ready}
 use Rattle.cells_steps.specs.Results.{Ran}
 use Rattle.cells_lines.specs.declared.Corridor.{Corridor}
 use Rattle.cells_lines.specs.Corridor.{corridor_checks, chain, starts, demands}

@@ -12,7 +12,8 @@ use Rattle.base_laws.proofs.Bools.{zero_one}
 use Rattle.cells_steps.specs.Steps.{volumes_after}
 use Rattle.cells_steps.proofs.Guarantees.{keeps, length-all-after}
 use Rattle.cells_lines.specs.Corridor.{cell_count, cell_line_checks, cell_checks, exit_check, demand_check, demand_checks, corridor_checks, chain, starts, demands}
-use Rattle.cells_call.specs.Call.{cells_numbers, run_of, answer_of, run_cells, padded, volumes_of, final_volumes, volumes_in, Kept, RunKeeps}
+use Rattle.cells_call.specs.Call.{cells_numbers, run_of, answer_of, run_cells, padded, volumes_of, final_volumes, Kept, RunKeeps}
+use Rattle.cells_call.specs.Volumes.{volumes_in}
 use Rattle.cells_call.proofs.Ready.{starts-length, corridor-ready}
 
 sum-padded : (volumes : List ℕ) → sum (padded volumes) ≡ sum volumes

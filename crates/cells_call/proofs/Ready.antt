@@ -5,7 +5,8 @@ use Rattle.base_search.specs.Checks.{verdict, Hold}
 use Rattle.base_search.proofs.Laws.{hold-of-passes}
 use Rattle.text_reader.specs.Lines.{Line, no_line}
 use Rattle.base_laws.proofs.Laws.{length-list, get-list}
-use Rattle.cells_steps.specs.Steps.{no_cell, Ready}
+use Rattle.cells_steps.specs.Steps.{no_cell}
+use Rattle.cells_steps.specs.Ready.{Ready}
 use Rattle.cells_lines.specs.Corridor.{cell_of, start_of, valid_cell, cell_form, start_held, cell_count, cell_line_checks, cell_checks, exit_check, corridor_checks, chain, starts}
 
 module _ (text : List Line) where

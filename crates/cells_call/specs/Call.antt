@@ -1,4 +1,4 @@
--- The call `run_cells`: its answer, the final volumes, and what it keeps.
+-- Believed: the call `run_cells`: its answer, the final volumes, and what it keeps.
 use Rattle.std.specs.Prelude.{ℕ, ◌+◌, ◌-◌, ◌≤◌, ◌<◌, ◌≡◌, List, [], ◌∷◌, ◌++◌, length, slice_index, replicate, sum, Result, Ok, Err}
 use Rattle.base_search.specs.declared.Refusal.{Refusal}
 use Rattle.base_search.specs.Checks.{Verdict, verdict}
@@ -45,11 +45,6 @@ answer_of (Err r) text = Err r
 
 unfoldable pub run_cells : List Line → Result CellsRun Refusal
 run_cells text = answer_of (verdict (corridor_checks text)) text
-
--- the volumes of an answer; all 0 if it is a refusal
-abbrev pub volumes_in : Result CellsRun Refusal → List ℕ
-volumes_in (Ok run) = run.volumes
-volumes_in (Err r) = zeros 64
 
 -- what a run that is not refused keeps: its chain for every list of demands, and what it gives back
 -- for those of the text

@@ -9,7 +9,7 @@ use Rattle.base_search.proofs.Laws.{first-stop, first_passes}
 use Rattle.text_reader.specs.Lines.{Line, lines, no_line}
 use Rattle.text_reader.specs.Reading.{line_at, Starts}
 use Rattle.text_reader.proofs.Laws.{starts_first, starts-line, starts-plus}
-use Rattle.base_laws.specs.Indexed.{filled}
+use Rattle.base_laws.specs.Filled.{filled}
 use Rattle.base_laws.proofs.Laws.{filled_none, filled_more}
 use Rattle.cells_steps.specs.declared.Cell.{Cell}
 use Rattle.cells_lines.specs.Corridor.{letter_c, cell_of, start_of, cell_line_checks, cell_count, cell_checks}

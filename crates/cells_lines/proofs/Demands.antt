@@ -8,7 +8,7 @@ use Rattle.base_search.proofs.Laws.{first-stop, first_passes, or-else-passes, or
 use Rattle.text_reader.specs.Lines.{lines, no_line, number}
 use Rattle.text_reader.specs.Reading.{line_at, at_end, Starts}
 use Rattle.text_reader.proofs.Laws.{starts-line, starts-end, starts-plus}
-use Rattle.base_laws.specs.Indexed.{filled}
+use Rattle.base_laws.specs.Filled.{filled}
 use Rattle.base_laws.proofs.Laws.{filled_none, filled_more}
 use Rattle.cells_lines.specs.Corridor.{letter_d, demand_line, demand_count, demand_check, demand_checks, demand_volume, volume_form}
 use Rattle.cells_lines.specs.Reading.{VolumeRead, DemandsAsked, DemandsRead}

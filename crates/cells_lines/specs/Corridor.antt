@@ -1,6 +1,6 @@
--- The text of a corridor in cells: 1 to 64 lines `C`, flow limit, holding limit, wave ratio, start;
--- one line `X`, exit limit; 1 to 120 lines `D`, demand. Lines, cells and demands are counted from 0
--- here, lines from 1 in a refusal.
+-- Believed: the text of a corridor in cells: 1 to 64 lines `C`, flow limit, holding limit, wave
+-- ratio, start; one line `X`, exit limit; 1 to 120 lines `D`, demand. Lines, cells and demands are
+-- counted from 0 here, lines from 1 in a refusal.
 use Rattle.std.specs.Prelude.{ℕ, suc, ◌+◌, ◌-◌, Bool, ◌&&◌, List, nat_le, nat_lt, ◌==◌, length, slice_index_or}
 use Rattle.std.specs.List.{prefix_len}
 use Rattle.base_search.specs.Checks.{Checks, check, each, ◌then◌}

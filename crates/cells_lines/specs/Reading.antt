@@ -1,9 +1,9 @@
--- What the functions that read a corridor's text promise.
+-- Inner: what the functions that read a corridor's text promise.
 use Rattle.std.specs.Prelude.{ℕ, ◌+◌, ◌≤◌, ◌<◌, ◌≡◌, true, List, length, slice_index_or, take, drop, Some, Ok}
 use Rattle.base_search.specs.Checks.{each, verdict}
 use Rattle.text_reader.specs.Lines.{lines, no_line, number}
 use Rattle.text_reader.specs.Reading.{line_at, record_at, Starts}
-use Rattle.base_laws.specs.Indexed.{filled}
+use Rattle.base_laws.specs.Filled.{filled}
 use Rattle.cells_steps.specs.declared.Cell.{Cell}
 use Rattle.cells_steps.specs.Steps.{chain_of}
 use Rattle.cells_lines.specs.declared.Corridor.{Corridor}

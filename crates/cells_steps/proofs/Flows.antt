@@ -3,7 +3,8 @@ use Rattle.base_laws.proofs.Kit.{ℕ, zero, suc, ◌-◌, ◌≤◌, ◌<◌, �
 use Rattle.std.proofs.lemmas.Grind.{common_steps}
 use Rattle.base_laws.proofs.Laws.{length-list, get-list}
 use Rattle.cells_steps.specs.declared.Cell.{Cell}
-use Rattle.cells_steps.specs.Steps.{Chain, cell_at, inflow, outflow, flow, volume_after, after, Ready}
+use Rattle.cells_steps.specs.Steps.{Chain, cell_at, inflow, outflow, flow, volume_after, after}
+use Rattle.cells_steps.specs.Ready.{Ready}
 
 module _ (cell : Cell) (waiting volume : ℕ) where
   pub inflow-waiting : inflow cell waiting volume ≤ waiting

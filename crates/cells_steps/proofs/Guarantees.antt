@@ -3,7 +3,8 @@ use Rattle.base_laws.proofs.Kit.{ℕ, zero, suc, ◌+◌, ◌≤◌, ◌≡◌, 
 use Rattle.std.specs.List.{sum}
 use Rattle.std.proofs.lemmas.List.Sums.{sum_by_more, sum_by_push}
 use Rattle.base_laws.specs.Indexed.{list}
-use Rattle.cells_steps.specs.Steps.{Chain, flow, volume_after, after, volumes_after, total_in, total_out, Ready}
+use Rattle.cells_steps.specs.Steps.{Chain, flow, volume_after, after, volumes_after, total_in, total_out}
+use Rattle.cells_steps.specs.Ready.{Ready}
 use Rattle.cells_steps.specs.Guarantees.{Keeps}
 use Rattle.cells_steps.proofs.Flows.{outflow-has, length-after, after-ready}
 

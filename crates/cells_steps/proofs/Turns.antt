@@ -2,10 +2,11 @@
 use Rattle.base_laws.proofs.Kit.{ℕ, ◌+◌, ◌-◌, ◌*◌, ◌≤◌, ◌<◌, min, ◌≡◌, sym, ap, ◌∙◌, List, [], ◌∷◌, add-one, arith, length, get_or, set, drop, drop_of_length-le, drop-cons}
 use mir.Syntax.{w32}
 use mir.Val.{Fits}
-use Rattle.base_laws.specs.Indexed.{filled}
+use Rattle.base_laws.specs.Filled.{filled}
 use Rattle.base_laws.proofs.Laws.{filled_none, filled-past, filled_more, filled-all}
 use Rattle.cells_steps.specs.declared.Passed.{Passed}
-use Rattle.cells_steps.specs.Steps.{Chain, cell_at, inflow, outflow, flow, volume_after, after, volumes_after, total_in, total_out, Ready}
+use Rattle.cells_steps.specs.Steps.{Chain, cell_at, inflow, outflow, flow, volume_after, after, volumes_after, total_in, total_out}
+use Rattle.cells_steps.specs.Ready.{Ready}
 use Rattle.cells_steps.specs.Results.{Stepped, Ran}
 use Rattle.cells_steps.proofs.Flows.{outflow-has, flow-fits, after-ready}
 

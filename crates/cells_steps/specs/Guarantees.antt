@@ -1,4 +1,4 @@
--- What every list of steps keeps, a field for each sentence.
+-- Believed: what every list of steps keeps, a field for each sentence.
 use Rattle.std.specs.Prelude.{ℕ, ◌+◌, ◌≤◌, ◌<◌, ◌≡◌, List, length, slice_index, sum}
 use Rattle.cells_steps.specs.Steps.{Chain, cell_at, volumes_after, total_in, total_out}
 

@@ -1,3 +1,4 @@
 pub mod Steps
 pub mod Guarantees
 pub mod Results
+pub mod Ready

@@ -1,4 +1,4 @@
--- What the functions that step a chain promise.
+-- Inner: what the functions that step a chain promise.
 use Rattle.std.specs.Prelude.{ℕ, ◌≡◌, List, length}
 use Rattle.cells_steps.specs.declared.Passed.{Passed}
 use Rattle.cells_steps.specs.Steps.{Chain, flow, after, volumes_after, total_in, total_out}

@@ -1,6 +1,6 @@
--- The steps of a chain of cells. Cells and borders are counted from 0: border i is the way into
--- cell i, the last border is the way out.
-use Rattle.std.specs.Prelude.{ℕ, zero, suc, ◌+◌, ◌-◌, ◌*◌, ◌/◌, ◌≤◌, ◌<◌, min, ◌≡◌, if◌then◌else◌, List, [], ◌∷◌, nat_lt, length, slice_index, slice_index_or}
+-- Believed: the steps of a chain of cells. Cells and borders are counted from 0: border i is the
+-- way into cell i, the last border is the way out.
+use Rattle.std.specs.Prelude.{ℕ, zero, suc, ◌+◌, ◌-◌, ◌*◌, ◌/◌, min, if◌then◌else◌, List, [], ◌∷◌, nat_lt, length, slice_index, slice_index_or}
 use Rattle.base_laws.specs.Indexed.{list}
 use Rattle.cells_steps.specs.declared.Cell.{Cell}
 
@@ -59,12 +59,3 @@ module _ (chain : Chain) where
   unfoldable pub total_out : List ℕ → List ℕ → ℕ
   total_out [] volumes = 0
   total_out (demand ∷ demands) volumes = flow demand volumes (length volumes) + total_out demands (after demand volumes)
-
--- what a loaded chain is: 1 to 64 cells, each within its limits
-pub record Ready (chain : Chain) (volumes : List ℕ) : Type 0 where
-  pub some : 0 < length volumes
-  pub few : length volumes ≤ 64
-  pub same_length : length chain.cells ≡ length volumes
-  pub held : (i : ℕ) → i < length volumes → slice_index volumes i ≤ (cell_at chain i).holding_limit
-  pub small : (i : ℕ) → i < length volumes → (cell_at chain i).holding_limit ≤ 2_000_000_000
-  pub slow : (i : ℕ) → i < length volumes → (cell_at chain i).wave_ratio ≤ 1000

@@ -2,7 +2,8 @@
 #![tactic(auto)]
 
 ghost use Rattle.std.specs.Prelude.{◌≡◌, ◌≤◌, length};
-ghost use Rattle.cells_steps.specs.Steps.{chain_of, inflow, Ready};
+ghost use Rattle.cells_steps.specs.Steps.{chain_of, inflow};
+ghost use Rattle.cells_steps.specs.Ready.{Ready};
 ghost use Rattle.cells_steps.specs.Results.{Stepped, Ran};
 
 /// The most cells of a corridor.

@@ -21,7 +21,8 @@ use Rattle.network_tables.specs.declared.NetworkTables.{NetworkTables}
 use Rattle.network_tables.specs.Fields.{line_size}
 use Rattle.network.specs.Loading.{TablesJudged, Loaded, LoadedFrom}
 use Rattle.listing_lines.specs.Entry.{Entry}
-use Rattle.model_text.specs.Answers.{text_answer, bytes_after, room_verdict, Told}
+use Rattle.model_text.specs.Answers.{text_answer, bytes_after}
+use Rattle.model_text.specs.Told.{room_verdict, Told}
 use Rattle.model_text.proofs.Answers.{refused-of-answer, told-written}
 use Rattle.listing_call.specs.Listing.{listing_numbers, entry_checks_by, listing_checks, plan_text, write_checks, plan_from_listing, buffer_after}
 use Rattle.listing_call.specs.ReadsBack.{PlanGot}

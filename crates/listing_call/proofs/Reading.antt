@@ -15,7 +15,8 @@ use Rattle.network_tables.specs.declared.Counts.{Counts}
 use Rattle.step_arrivals.specs.Arrivals.{seconds_in}
 use Rattle.listing_lines.specs.declared.Variable.{Variable}
 use Rattle.listing_lines.specs.declared.Setting.{Setting}
-use Rattle.listing_lines.specs.Entry.{Entry, entries, read_at, EntryStarts}
+use Rattle.listing_lines.specs.Entry.{Entry, entries}
+use Rattle.listing_lines.specs.Reading.{read_at, EntryStarts}
 use Rattle.listing_lines.proofs.Lines.{Read, entry_first, entry-within, entry-end, read-sets, read-malformed}
 use Rattle.listing_call.specs.declared.Place.{Place}
 use Rattle.listing_call.specs.Listing.{step_of, valid_value, fits, listing_entry, set_before, formed_by, fits_by, entry_checks_by}

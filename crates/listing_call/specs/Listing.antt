@@ -1,6 +1,7 @@
--- Plans straight from the solver: when a listing is refused, the numbers that it gives, and the
--- plan text that is written of them. The listing is the list of its lines (crate `listing_lines`).
--- Steps, signals, links and movements are counted from 0 here, from 1 in a variable, phases from 1.
+-- Believed: plans straight from the solver: when a listing is refused, the numbers that it gives,
+-- and the plan text that is written of them. The listing is the list of its lines (crate
+-- `listing_lines`). Steps, signals, links and movements are counted from 0 here, from 1 in a
+-- variable, phases from 1.
 use Rattle.std.specs.Prelude.{ℕ, zero, suc, ◌*◌, ◌-◌, ◌/◌, ◌%◌, ◌^◌, Bool, true, false, if◌then◌else◌, not, List, [], ◌∷◌, ◌++◌, nat_le, ◌==◌, length, slice_index_or, Some, None, Result}
 use Rattle.base_search.specs.Checks.{Checks, check, each, ◌then◌, verdict}
 use Rattle.text_reader.specs.Field.{largest}

@@ -1,5 +1,5 @@
--- What the call promises, and its theorem: reading the written plan gives just the listing's
--- numbers.
+-- Believed: what the call promises, and its theorem: reading the written plan gives just the
+-- listing's numbers.
 use Rattle.std.specs.Prelude.{ℕ, ◌+◌, ◌*◌, ◌-◌, ◌/◌, ◌%◌, ◌^◌, ◌≤◌, ◌<◌, ◌≡◌, true, List, length, take, Some, Result, Ok, Err}
 use Rattle.base_search.specs.declared.Refusal.{Refusal}
 use Rattle.base_search.specs.Numbers.{CanArise}

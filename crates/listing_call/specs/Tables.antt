@@ -1,6 +1,6 @@
--- The program's tables of a listing's numbers, a row for each step: the numbers of its line, and a
--- bit for each variable that was set. These definitions are not those of the call: the contracts
--- between the functions use them.
+-- Inner: the program's tables of a listing's numbers, a row for each step: the numbers of its line,
+-- and a bit for each variable that was set. These definitions are not those of the call: the
+-- contracts between the functions use them.
 use Rattle.std.specs.Prelude.{ℕ, suc, ◌+◌, ◌*◌, ◌-◌, ◌/◌, ◌%◌, ◌^◌, ◌≤◌, ◌<◌, ◌≡◌, Bool, true, false, if◌then◌else◌, List, [], ◌==◌, length, slice_index, slice_index_or, set, bit_or, Option, Some, None, Result, Ok, Err, ok_or, option_map}
 use Rattle.base_search.specs.declared.Refusal.{Refusal}
 use Rattle.base_search.specs.Checks.{Verdict, refusal, each, verdict}

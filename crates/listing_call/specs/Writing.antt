@@ -1,4 +1,4 @@
--- What the writing of a listing's plan promises.
+-- Inner: what the writing of a listing's plan promises.
 use Rattle.std.specs.Prelude.{ℕ, ◌≡◌, List, length, Result, Ok, Err}
 use Rattle.base_search.specs.declared.Refusal.{Refusal}
 use Rattle.base_search.specs.Checks.{each, verdict}
@@ -6,7 +6,7 @@ use Rattle.model.specs.declared.Signal.{Signal}
 use Rattle.network_tables.specs.declared.Counts.{Counts}
 use Rattle.step_arrivals.specs.Arrivals.{seconds_in}
 use Rattle.listing_lines.specs.Entry.{Entry}
-use Rattle.model_text.specs.Answers.{room_verdict, Told}
+use Rattle.model_text.specs.Told.{room_verdict, Told}
 use Rattle.listing_call.specs.Listing.{entry_checks_by}
 use Rattle.listing_call.specs.Tables.{has_in, Stored}
 use Rattle.network_writer.specs.Plan.{plan_lines}

@@ -9,7 +9,8 @@ use Rattle.std.proofs.lemmas.List.Folds.{length-prefix_len}
 use Rattle.std.proofs.lemmas.List.Sums.{fails_before_first}
 use Rattle.std.proofs.lemmas.List.Splits.{slice_split_first, slice_split_none, length-slice_split}
 use Rattle.listing_lines.specs.declared.Setting.{Setting}
-use Rattle.listing_lines.specs.Entry.{split_once, entry_of, entries_of, entries, entry_at, next_entry, read_at, EntryStarts}
+use Rattle.listing_lines.specs.Entry.{split_once, entry_of, entries_of, entries}
+use Rattle.listing_lines.specs.Reading.{entry_at, next_entry, read_at, EntryStarts}
 
 abbrev is_feed : ℕ → Bool
 is_feed b = b == 10

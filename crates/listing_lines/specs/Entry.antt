@@ -1,7 +1,7 @@
--- What a line of a solver's listing says: a variable, a space and a decimal. All that is above the
--- reader is stated over the list of entries alone, never over bytes.
-use Rattle.std.specs.Prelude.{ℕ, ◌==◌, ◌+◌, ◌-◌, ◌*◌, ◌^◌, ◌≡◌, List, [], ◌∷◌, Bool, if◌then◌else◌, ◌&&◌, length, take, drop, slice_index, slice_index_or, nat_le, nat_lt, Option, Some, None, option_map, option_and_then}
-use Rattle.std.specs.List.{position, position_or_len, slice_split}
+-- Believed: what a line of a solver's listing says: a variable, a space and a decimal. All that is
+-- above the reader is stated over the list of entries alone, never over bytes.
+use Rattle.std.specs.Prelude.{ℕ, ◌==◌, ◌+◌, ◌-◌, ◌*◌, ◌^◌, List, [], ◌∷◌, Bool, if◌then◌else◌, ◌&&◌, length, take, drop, slice_index, nat_le, nat_lt, Option, Some, None, option_map, option_and_then}
+use Rattle.std.specs.List.{position, slice_split}
 use Rattle.std.specs.Option.{option_zip}
 use Rattle.text_reader.specs.Field.{digits, decimal}
 use Rattle.listing_lines.specs.declared.Setting.{Setting}
@@ -109,17 +109,3 @@ unfoldable pub entries : List ℕ → List Entry
 entries text = entries_of (slice_split (λ b. b == 10) text)
 
 -- ---- by places
--- the line that starts at a place; malformed where none does
-unfoldable pub entry_at : List ℕ → ℕ → Entry
-entry_at text at = slice_index_or (entries (drop at text)) 0 None
-
--- the place past the line feed of the line that starts at a place
-unfoldable pub next_entry : List ℕ → ℕ → ℕ
-next_entry text at = at + position_or_len (λ b. b == 10) (drop at text) + 1
-
-unfoldable pub read_at : List ℕ → ℕ → Option (Setting × ℕ)
-read_at text at = option_map (λ s. (s, next_entry text at)) (entry_at text at)
-
--- A line starts at a place: the lines from there on are those of the text from line i on.
-unfoldable pub EntryStarts : List ℕ → ℕ → ℕ → Type 0
-EntryStarts text at i = entries (drop at text) ≡ drop i (entries text)

@@ -2,7 +2,8 @@
 #![tactic(auto)]
 
 ghost use Rattle.std.specs.Prelude.{◌≡◌, ◌-◌, ◌<◌, ◌≤◌, ◌^◌, length, MatchOption, IfSome, OnSome};
-ghost use Rattle.listing_lines.specs.Entry.{split_once, digits_of, fraction_of, rate_of, index_of, pair_of, phase_in, variable_in, variable_of, entry_of, read_at};
+ghost use Rattle.listing_lines.specs.Entry.{split_once, digits_of, fraction_of, rate_of, index_of, pair_of, phase_in, variable_in, variable_of, entry_of};
+ghost use Rattle.listing_lines.specs.Reading.{read_at};
 
 /// A variable, by the numbers in its name, counted from 1.
 #[derive(Clone, Copy)]

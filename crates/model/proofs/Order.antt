@@ -1,6 +1,7 @@
 -- The order of the phases of a signal: from a phase through all others back to it.
 use Rattle.base_laws.proofs.Kit.{◌≡◌, refl, sym, ap, ◌∙◌, ◌⊎◌, inl, inr, ⊎_elim, ◌≢◌, List, [], ◌∷◌, ◌++◌, append-nil, ℕ, zero, suc, ◌+◌, ◌-◌, ◌≤◌, ◌<◌, eq-or-lt_of_le, le_refl, arith, eq-eqb, ne_eqb}
-use Rattle.model.specs.Signals.{phase_after, nth_next, PhaseOrder}
+use Rattle.model.specs.Signals.{phase_after}
+use Rattle.model.specs.Order.{nth_next, PhaseOrder}
 use Rattle.model.specs.Guarantees.{rising, others}
 
 module _ (P : ℕ) where

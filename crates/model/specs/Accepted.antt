@@ -1,4 +1,4 @@
--- A valid network and an accepted plan, by their rules: each holds of every item.
+-- Believed: a valid network and an accepted plan, by their rules: each holds of every item.
 use Rattle.std.specs.Prelude.{◌≡◌, true, List, ℕ, ◌<◌}
 use Rattle.text_reader.specs.Lines.{Line}
 use Rattle.model.specs.Network.{link_count, signal_count, movement_count, step_count, tram_count, signal}

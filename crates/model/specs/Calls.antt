@@ -1,4 +1,4 @@
--- The calls: their answers, and the ledger after a plan's check.
+-- Believed: the calls: their answers, and the ledger after a plan's check.
 use Rattle.std.specs.Prelude.{ℕ, suc, ◌+◌, ◌*◌, ◌-◌, ◌/◌, Bool, true, false, if◌then◌else◌, List, [], ◌++◌, nat_le, nat_lt, ◌==◌, length, slice_index, drop, Result, Ok, Err}
 use Rattle.base_search.specs.Checks.{Checks, check, each, ◌then◌, verdict, Verdict}
 use Rattle.text_reader.specs.Lines.{Line}

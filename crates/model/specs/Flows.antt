@@ -1,5 +1,5 @@
--- What the lines of a plan text say on a network, and the traffic that follows from them. Step n
--- leads from boundary n to boundary n + 1; n counts the plan's steps and boundaries, m the
+-- Believed: what the lines of a plan text say on a network, and the traffic that follows from them.
+-- Step n leads from boundary n to boundary n + 1; n counts the plan's steps and boundaries, m the
 -- timeline's.
 use Rattle.std.specs.Prelude.{ℕ, zero, suc, ◌+◌, ◌*◌, ◌-◌, List, [], ◌∷◌, ◌++◌, Bool, if◌then◌else◌, nat_le, nat_lt, ◌==◌}
 use Rattle.text_reader.specs.Lines.{Line}

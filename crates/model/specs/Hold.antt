@@ -1,4 +1,4 @@
--- What a plan text stands for: an empty one means that the network holds.
+-- Believed: what a plan text stands for: an empty one means that the network holds.
 use Rattle.std.specs.Prelude.{ℕ, ◌+◌, ◌*◌, ◌-◌, ◌^◌, ◌≡◌, List, [], ◌∷◌, nat_lt, length, Result}
 use Rattle.text_reader.specs.Lines.{Line, lines}
 use Rattle.text_writer.specs.Records.{record_texts, record_lines}

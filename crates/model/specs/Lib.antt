@@ -8,3 +8,5 @@ pub mod Calls
 pub mod Hold
 pub mod Report
 pub mod Guarantees
+pub mod SignalRows
+pub mod Order

@@ -1,7 +1,8 @@
--- What the lines of a network text say. Lines, signals, links, movements and steps are counted from
--- 0 here, phases from 1. The timeline is the past steps (`H` lines) and behind them the plan's (`S`
--- lines), lines whose first number is a length. Step m of the timeline leads from its boundary m to
--- m + 1; step n and boundary n of the plan are its step and boundary `on_timeline n`.
+-- Believed: what the lines of a network text say. Lines, signals, links, movements and steps are
+-- counted from 0 here, phases from 1. The timeline is the past steps (`H` lines) and behind them
+-- the plan's (`S` lines), lines whose first number is a length. Step m of the timeline leads from
+-- its boundary m to m + 1; step n and boundary n of the plan are its step and boundary `on_timeline
+-- n`.
 use Rattle.std.specs.Prelude.{ℕ, zero, suc, ◌+◌, ◌*◌, ◌-◌, List, [], ◌∷◌, if◌then◌else◌, Bool, nat_le, ◌==◌, slice_index_or, take, drop}
 use Rattle.text_reader.specs.Lines.{Line, no_line, number}
 use Rattle.model.specs.declared.Signal.{Signal}

@@ -1,4 +1,4 @@
--- What the program `plancheck` prints ("One corridor, whole").
+-- Inner: what the program `plancheck` prints ("One corridor, whole").
 use Rattle.std.specs.Prelude.{ℕ, suc, List, [], ◌∷◌, ◌++◌, Ok, Err}
 use Rattle.base_search.specs.Checks.{◌then◌, verdict, Verdict}
 use Rattle.text_reader.specs.Lines.{Line, lines}

@@ -1,5 +1,5 @@
--- The rules, each a test: refusals 2 to 6, 28 and 30 of a network's values, and rules 10 to 18, 25
--- to 27 and 29 of step n.
+-- Believed: the rules, each a test: refusals 2 to 6, 28 and 30 of a network's values, and rules 10
+-- to 18, 25 to 27 and 29 of step n.
 use Rattle.std.specs.Prelude.{ℕ, zero, suc, ◌+◌, ◌*◌, ◌-◌, ◌^◌, Bool, true, not, if◌then◌else◌, List, [], nat_le, nat_lt, ◌==◌, slice_index, slice_index_or}
 use Rattle.text_reader.specs.Lines.{Line, no_line, number}
 use Rattle.model.specs.declared.Signal.{Signal}

@@ -1,5 +1,5 @@
--- A signal through a step: rules 10 to 14 of one signal, and what it shows afterwards.
-use Rattle.std.specs.Prelude.{ℕ, zero, suc, ◌+◌, ◌-◌, ◌/◌, ◌%◌, ◌^◌, ◌≤◌, ◌<◌, ◌≡◌, ◌≢◌, Bool, if◌then◌else◌, not, ◌&&◌, ◌||◌, nat_le, ◌==◌, slice_index, List, [], ◌∷◌}
+-- Believed: a signal through a step: rules 10 to 14 of one signal, and what it shows afterwards.
+use Rattle.std.specs.Prelude.{ℕ, zero, suc, ◌+◌, ◌-◌, ◌/◌, ◌%◌, ◌^◌, Bool, if◌then◌else◌, not, ◌&&◌, ◌||◌, nat_le, ◌==◌, slice_index}
 use Rattle.model.specs.declared.Signal.{Signal}
 
 -- the phase among 1 to P whose bit is all of the mask: phase k has the bit of 2 ^ (k - 1); 0 where
@@ -26,17 +26,6 @@ phase_after P k = if k == P then 1 else k + 1
 -- the phase after the shown one
 abbrev pub next_phase : Signal → ℕ
 next_phase s = phase_after s.phases s.shown
-
--- the d-th next of phase k of P
-unfoldable pub nth_next : ℕ → ℕ → ℕ → ℕ
-nth_next P zero k = k
-nth_next P (suc d) k = phase_after P (nth_next P d k)
-
--- What the order of the phases keeps, for every number of phases: from any phase the P-th next is
--- that phase again, and no earlier one is.
-pub record PhaseOrder : Type 0 where
-  pub comes-again : (P k : ℕ) → 1 ≤ k → k ≤ P → nth_next P P k ≡ k
-  pub no-earlier : (P k d : ℕ) → 1 ≤ k → k ≤ P → 0 < d → d < P → nth_next P d k ≢ k
 
 -- phase 1 begins again: q is 1, and was not shown before
 abbrev pub begins_cycle : Signal → ℕ → Bool
@@ -87,31 +76,3 @@ after s q seconds =
       least = s.least;
       greatest = s.greatest;
     }
-
--- how many numbers a `G` line of eight phases has
-abbrev pub signal_fields : ℕ
-signal_fields = 22
-
--- a signal of eight phases by the numbers of its line, and these numbers
-abbrev pub signal_by : (ℕ → ℕ) → Signal
-signal_by number =
-    record {
-      least_cycle = number 0;
-      greatest_cycle = number 1;
-      phases = number 2;
-      shown = number 3;
-      shown_for = number 4;
-      cycle_clock = number 5;
-      least = number 6 ∷ number 8 ∷ number 10 ∷ number 12 ∷ number 14 ∷ number 16 ∷ number 18 ∷ number 20 ∷ [];
-      greatest = number 7 ∷ number 9 ∷ number 11 ∷ number 13 ∷ number 15 ∷ number 17 ∷ number 19 ∷ number 21 ∷ [];
-    }
-
-unfoldable pub signal_row : Signal → List ℕ
-signal_row s =
-    s.least_cycle ∷ s.greatest_cycle ∷ s.phases ∷ s.shown ∷ s.shown_for ∷ s.cycle_clock
-    ∷ slice_index s.least 0 ∷ slice_index s.greatest 0 ∷ slice_index s.least 1
-    ∷ slice_index s.greatest 1 ∷ slice_index s.least 2 ∷ slice_index s.greatest 2
-    ∷ slice_index s.least 3 ∷ slice_index s.greatest 3 ∷ slice_index s.least 4
-    ∷ slice_index s.greatest 4 ∷ slice_index s.least 5 ∷ slice_index s.greatest 5
-    ∷ slice_index s.least 6 ∷ slice_index s.greatest 6 ∷ slice_index s.least 7
-    ∷ slice_index s.greatest 7 ∷ []

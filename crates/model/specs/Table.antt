@@ -1,5 +1,5 @@
--- The checks of each call, in the order in which they refuse. Lines are numbered from 1; 0 means
--- that no line is named.
+-- Believed: the checks of each call, in the order in which they refuse. Lines are numbered from 1;
+-- 0 means that no line is named.
 use Rattle.std.specs.Prelude.{ℕ, suc, ◌+◌, ◌*◌, Bool, List, [], ◌∷◌, nat_le, ◌==◌, length, slice_index_or}
 use Rattle.base_search.specs.Checks.{Checks, check, each, ◌then◌, Rule, table}
 use Rattle.text_reader.specs.Lines.{Line, no_line, is_record, starts_as}

@@ -3,7 +3,7 @@
 #![tactic(auto)]
 
 ghost use Rattle.std.specs.Prelude.{◌≡◌, ◌+◌, ◌*◌, ◌≤◌, get_or};
-ghost use Rattle.model.specs.Signals.{signal_by, signal_row};
+ghost use Rattle.model.specs.SignalRows.{signal_by, signal_row};
 
 /// The most phases of a signal.
 pub const MAX_PHASES: usize = 8;
@@ -66,7 +66,7 @@ impl From<[u32; SIGNAL_FIELDS]> for Signal {
 impl From<&Signal> for [u32; SIGNAL_FIELDS] {
     ghost from_gives = { λ signal fields. fields ≡ signal_row signal.now };
 
-    #[tactic(auto, unfolding(crate::specs::Signals::signal_row))]
+    #[tactic(auto, unfolding(crate::specs::SignalRows::signal_row))]
     fn from(signal: &Signal) -> Self {
         let least = signal.least;
         let greatest = signal.greatest;

@@ -13,7 +13,8 @@ use Rattle.model.specs.Hold.{hold_numbers, hold_lines, meant}
 use Rattle.model.proofs.Accepted.{valid-network}
 use Rattle.model.proofs.Hold.{hold-shown}
 use Rattle.model_text.proofs.Formed.{formed-of-holds}
-use Rattle.model_carry.specs.Part.{cut, carried}
+use Rattle.model_carry.specs.Part.{cut}
+use Rattle.model_carry.specs.Carried.{carried}
 use Rattle.model_carry.proofs.Agree.{signal-agree}
 use Rattle.model_carry.proofs.Parts.{part-signals, part-links, part-movements, part-signal}
 use Rattle.model_carry.proofs.Theorem.{cut-steps, carried-steps}

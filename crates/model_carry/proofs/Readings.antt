@@ -7,7 +7,8 @@ use Rattle.text_reader.specs.Lines.{Line, lines}
 use Rattle.model.specs.Table.{plan_checks}
 use Rattle.model.specs.Hold.{meant}
 use Rattle.model.proofs.Texts.{bytes}
-use Rattle.model_carry.specs.Part.{cut, carried}
+use Rattle.model_carry.specs.Part.{cut}
+use Rattle.model_carry.specs.Carried.{carried}
 use Rattle.model_carry.specs.Call.{carry_checks}
 use Rattle.model_carry.proofs.Opened.{opened}
 use Rattle.std.specs.Prelude.{Ok, Err}

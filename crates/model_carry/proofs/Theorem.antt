@@ -10,7 +10,8 @@ use Rattle.model.specs.Table.{network_checks, ledger_checks, line_checks, plan_l
 use Rattle.model.proofs.Accepted.{LawfulStep, valid-network, lawful-step}
 use Rattle.model_text.proofs.Formed.{formed-of-holds}
 use Rattle.model_text.proofs.Fits.{valid-reads-back}
-use Rattle.model_carry.specs.Part.{part, cut, carried, carried_text}
+use Rattle.model_carry.specs.Part.{part, cut, carried_text}
+use Rattle.model_carry.specs.Carried.{carried}
 use Rattle.model_carry.specs.Call.{boundary_checks, carry_checks}
 use Rattle.model_carry.specs.CarriesOn.{later, Accepts, Carries, next, Parted}
 use Rattle.model_carry.proofs.Later.{later_first, later-none, later-passes}

@@ -8,7 +8,8 @@ use Rattle.model.specs.Table.{letter_t, network_checks, line_checks}
 use Rattle.model.proofs.Accepted.{ValidNetwork, valid-network}
 use Rattle.model_text.proofs.Lines.{trams-are}
 use Rattle.model_text.proofs.Same.{SameNumbers, same_text}
-use Rattle.model_carry.specs.Part.{meets, clip, clipped, link_numbers, movement_numbers, past_numbers, step_numbers, part, cut, carried, carried_text}
+use Rattle.model_carry.specs.Part.{meets, clip, clipped, link_numbers, movement_numbers, past_numbers, step_numbers, part, cut, carried_text}
+use Rattle.model_carry.specs.Carried.{carried}
 use Rattle.model_carry.proofs.Trams.{clip_line}
 use Rattle.model_carry.proofs.GoesOn.{GoesOn, on-timeline-same, length-same, timeline-inflow-same, timeline-outflow-same, signal-same, waits-same}
 use Rattle.model_carry.proofs.Theorem.{carried-steps, carried-goes-on}

@@ -1,5 +1,5 @@
--- The call that carries on from boundary b: when it refuses, and what it writes. The plan is the
--- list of the lines that its text stands for on the cut network (`planned_on`).
+-- Believed: the call that carries on from boundary b: when it refuses, and what it writes. The plan
+-- is the list of the lines that its text stands for on the cut network (`planned_on`).
 use Rattle.std.specs.Prelude.{ℕ, ◌-◌, if◌then◌else◌, List, [], ◌∷◌, ◌++◌, nat_le, length, Result}
 use Rattle.base_search.specs.Checks.{Checks, check, ◌then◌, verdict}
 use Rattle.text_reader.specs.Lines.{Line, lines}

@@ -1,4 +1,4 @@
--- The theorem of carrying on.
+-- Believed: the theorem of carrying on.
 use Rattle.std.specs.Prelude.{ℕ, suc, ◌+◌, ◌*◌, ◌-◌, ◌≤◌, ◌<◌, ◌≡◌, ◌↔◌, List, [], ◌++◌, length, take, drop, Result, Ok, Err}
 use Rattle.base_search.specs.declared.Refusal.{Refusal}
 use Rattle.base_search.specs.Checks.{refusal, or_else, verdict, Hold, Verdict}

@@ -1,3 +1,4 @@
 pub mod Part
 pub mod Call
 pub mod CarriesOn
+pub mod Carried

@@ -1,8 +1,8 @@
--- The part of a network between two boundaries a and c of the plan is a network itself: its tram
--- lines are clipped to the steps a + 1 to c, dropped if emptied, and renumbered; its signals stand
--- as they do at a; at its entries waits what waits at a; and each step that was run is a past step.
--- The network cut to b steps is its part from 0 to b, which depends on no plan; the carried network
--- is its part from b to K.
+-- Believed: the part of a network between two boundaries a and c of the plan is a network itself:
+-- its tram lines are clipped to the steps a + 1 to c, dropped if emptied, and renumbered; its
+-- signals stand as they do at a; at its entries waits what waits at a; and each step that was run
+-- is a past step. The network cut to b steps is its part from 0 to b, which depends on no plan; the
+-- carried network is its part from b to K.
 use Rattle.std.specs.Prelude.{ℕ, suc, ◌+◌, ◌-◌, min, max, Bool, if◌then◌else◌, List, [], ◌∷◌, nat_le, slice_index}
 use Rattle.text_reader.specs.Lines.{Line, number}
 use Rattle.model.specs.declared.Signal.{Signal}
@@ -69,11 +69,6 @@ module _ (network plan : List Line) (a c : ℕ) where
 -- the network cut to b steps
 unfoldable pub cut : List Line → ℕ → List Line
 cut network b = network_lines (part network [] 0 b)
-
--- the network carried on from boundary b, after a plan of b lines: its lines, and the text that is
--- written
-unfoldable pub carried : List Line → List Line → ℕ → List Line
-carried network plan b = network_lines (part network plan b (step_count network))
 
 unfoldable pub carried_text : List Line → List Line → ℕ → List ℕ
 carried_text network plan b = network_text (part network plan b (step_count network))

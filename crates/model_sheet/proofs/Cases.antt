@@ -4,8 +4,10 @@ use Prim.Native.String.{String, ◌++◌}
 use Rattle.base_search.specs.Checks.{refusal, verdict, Verdict}
 use Rattle.text_reader.specs.Lines.{Line, lines}
 use Rattle.model.proofs.Texts.{bytes}
-use Rattle.model_sheet.specs.Runs.{found, pass_verdict, run_checks}
-use Rattle.model_sheet.specs.Cycle.{sheet_plan, sheet_text, plain_sheet, write_checks}
+use Rattle.model_sheet.specs.Runs.{run_checks}
+use Rattle.model_sheet.specs.Pass.{found, pass_verdict}
+use Rattle.model_sheet.specs.Cycle.{sheet_text, plain_sheet, write_checks}
+use Rattle.model_sheet.specs.SheetLines.{sheet_plan}
 use Rattle.model_sheet.specs.Calls.{keep_checks, sheet_ledger, buffer_after}
 use Rattle.model_sheet.proofs.Opened.{opened}
 use Rattle.std.specs.Prelude.{Ok, Err}

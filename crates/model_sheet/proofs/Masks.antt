@@ -15,7 +15,8 @@ use Rattle.model.proofs.Times.{time-suc}
 use Rattle.model.proofs.Phases.{phase-of-bit}
 use Rattle.model.proofs.Shown.{phase, phase-suc}
 use Rattle.sheet_lines.specs.Sheet.{phases_of, duration, end_of}
-use Rattle.model_sheet.specs.Cycle.{cycle_place, cycle_phase, sheet_phase, has_no_tram, sheet_numbers, sheet_plan}
+use Rattle.model_sheet.specs.Cycle.{cycle_place, cycle_phase, sheet_phase, has_no_tram, sheet_numbers}
+use Rattle.model_sheet.specs.SheetLines.{sheet_plan}
 use Rattle.model_sheet.proofs.Steps.{time-zero, ordinary_seconds, seconds-all}
 use Rattle.model_sheet.proofs.Cycle.{end-suc, shows, goes_on, changes}
 use Rattle.model_sheet.proofs.Run.{Run}

@@ -7,7 +7,8 @@ use Rattle.text_reader.specs.Lines.{Line}
 use Rattle.base_laws.specs.Test.{◌and◌, ◌or◌, every}
 use Rattle.base_laws.proofs.Tests.{and_left, and_right, or_cases, or_left, or_right, every_of, every-not}
 use Rattle.model.specs.Network.{signal_count, step_count}
-use Rattle.model_sheet.specs.Runs.{leaves, is_tested, last_line, keeps_sheet, rule34, run_checks, found, earlier, least_line, least_item, told_run, pass_verdict}
+use Rattle.model_sheet.specs.Runs.{leaves, is_tested, last_line, keeps_sheet, rule34, run_checks}
+use Rattle.model_sheet.specs.Pass.{found, earlier, least_line, least_item, told_run, pass_verdict}
 use Rattle.model_sheet.proofs.LastLine.{last-le, last-ordinary, last-reaches, begun}
 use Rattle.std.specs.Prelude.{Ok, Err}
 

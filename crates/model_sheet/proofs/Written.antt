@@ -17,7 +17,8 @@ use Rattle.model.proofs.Limits.{counts}
 use Rattle.model.proofs.Hold.{meant-lines}
 use Rattle.model.proofs.Phases.{bit-small}
 use Rattle.sheet_lines.specs.Sheet.{letter_f, phases_of, duration, valid_durations, valid_offset, valid_numbers, sheet_line_checks, signals_checks, sheet_checks}
-use Rattle.model_sheet.specs.Cycle.{cycle_place, cycle_phase, phase_at, fits_at, sheet_phase, fits, boundary_checks, sheet_numbers, sheet_plan, sheet_text, plain_sheet}
+use Rattle.model_sheet.specs.Cycle.{cycle_place, cycle_phase, phase_at, fits_at, sheet_phase, fits, boundary_checks, sheet_numbers, sheet_text, plain_sheet}
+use Rattle.model_sheet.specs.SheetLines.{sheet_plan}
 use Rattle.model_sheet.specs.Promises.{PlanWritten}
 use Rattle.model_sheet.proofs.Steps.{ordinary_seconds}
 use Rattle.model_sheet.proofs.Run.{RunsKept, kept-of-runs}

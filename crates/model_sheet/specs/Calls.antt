@@ -1,5 +1,5 @@
--- The two calls: their answers, and what they write. A plan is given by the lines that its text
--- stands for.
+-- Believed: the two calls: their answers, and what they write. A plan is given by the lines that
+-- its text stands for.
 use Rattle.std.specs.Prelude.{ℕ, List, [], ◌∷◌, ◌++◌, length, Result, Ok, Err}
 use Rattle.base_search.specs.Checks.{Checks, ◌then◌, verdict, Verdict}
 use Rattle.text_reader.specs.Lines.{Line}

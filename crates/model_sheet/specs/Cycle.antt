@@ -1,4 +1,4 @@
--- The repeated cycle of a sheet with offsets, and the plan that is written for it.
+-- Believed: the repeated cycle of a sheet with offsets, and the plan that is written for it.
 use Rattle.std.specs.Prelude.{ℕ, zero, suc, ◌+◌, ◌*◌, ◌-◌, ◌%◌, ◌^◌, ◌≤◌, ◌<◌, ◌≡◌, Bool, if◌then◌else◌, not, List, nat_le, nat_lt, ◌==◌, length}
 use Rattle.base_search.specs.Checks.{Checks, check, each, ◌then◌}
 use Rattle.text_reader.specs.Lines.{Line}
@@ -63,10 +63,6 @@ module _ (network sheet : List Line) where
   sheet_numbers n =
       list (signal_count network + (2 * link_count network + movement_count network))
       (λ k. only (nat_lt k (signal_count network)) (2 ^ (sheet_phase n k - 1)))
-
-  -- the lines and the text of the plan
-  unfoldable pub sheet_plan : List Line
-  sheet_plan = record_lines letter_p (step_count network) sheet_numbers
 
   unfoldable pub sheet_text : List ℕ
   sheet_text = record_texts letter_p (step_count network) sheet_numbers

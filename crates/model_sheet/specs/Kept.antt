@@ -1,6 +1,6 @@
--- A plan keeps a sheet. The greens are those of the guarantees, over ordinary steps, and a step is
--- named by the boundary at which it ends: a green whose first step ends at boundary a + 1 begins in
--- the plan, at time t(a).
+-- Believed: a plan keeps a sheet. The greens are those of the guarantees, over ordinary steps, and
+-- a step is named by the boundary at which it ends: a green whose first step ends at boundary a + 1
+-- begins in the plan, at time t(a).
 use Rattle.std.specs.Prelude.{ℕ, suc, ◌≤◌, ◌<◌, ◌≡◌, true, ◌⊎◌, List}
 use Rattle.text_reader.specs.Lines.{Line}
 use Rattle.model.specs.Network.{signal_count, step_count, time}

@@ -3,3 +3,5 @@ pub mod Runs
 pub mod Cycle
 pub mod Calls
 pub mod Promises
+pub mod Pass
+pub mod SheetLines

@@ -1,5 +1,5 @@
 -- To unfold `opened` is to unfold every definition of the call, for a proof by computation.
-use Rattle.text_reader.specs.Reading.{over}
+use Rattle.base_laws.specs.Indexed.{over}
 use Rattle.model.proofs.Opened.{opened as model_opened}
 use Rattle.model_text.specs.NetworkText.{count_numbers, network_lines, network_text}
 use Rattle.model_split.specs.Numbering.{rank, picked}

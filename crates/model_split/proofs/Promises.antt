@@ -7,7 +7,7 @@ use Rattle.base_search.specs.Numbers.{is_one_of}
 use Rattle.base_search.proofs.Laws.{or-else-first}
 use Rattle.base_search.proofs.Numbers.{Numbered, refused-number, all_of}
 use Rattle.text_reader.specs.Lines.{Line}
-use Rattle.text_reader.specs.Reading.{over}
+use Rattle.base_laws.specs.Indexed.{over}
 use Rattle.model.proofs.Numbers.{network-among}
 use Rattle.model_split.specs.declared.Lengths.{Lengths}
 use Rattle.model_split.specs.Call.{form_checks, part_checks, network_text₁, plan_text₁, network_text₂, plan_text₂, lengths, split_numbers, split_checks, split_answer, split_network, buffer_after}

@@ -1,9 +1,9 @@
--- The call that splits: when it refuses, and what it writes. The plan is the list of the lines that
--- its text stands for (`plan_of`).
+-- Believed: the call that splits: when it refuses, and what it writes. The plan is the list of the
+-- lines that its text stands for (`plan_of`).
 use Rattle.std.specs.Prelude.{ℕ, suc, ◌+◌, ◌*◌, ◌-◌, ◌^◌, ◌/◌, ◌%◌, Bool, not, List, [], ◌∷◌, ◌++◌, nat_le, nat_lt, ◌==◌, length, Result, Ok, Err}
 use Rattle.base_search.specs.Checks.{Checks, check, each, ◌then◌, verdict, Verdict}
 use Rattle.text_reader.specs.Lines.{Line}
-use Rattle.text_reader.specs.Reading.{over}
+use Rattle.base_laws.specs.Indexed.{over}
 use Rattle.base_laws.specs.Test.{◌and◌, ◌or◌, every}
 use Rattle.model.specs.Network.{link_count, signal_count, movement_count, step_count, past_count, exit_rate, signal_of, waiting_at_start, from_link, to_link, demand}
 use Rattle.model.specs.Table.{is_form, letter_p, network_checks}

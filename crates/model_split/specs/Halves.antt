@@ -1,5 +1,5 @@
--- A network and a plan in two halves, by the set of links in the first. Links, signals, movements
--- and steps are counted from 0.
+-- Believed: a network and a plan in two halves, by the set of links in the first. Links, signals,
+-- movements and steps are counted from 0.
 use Rattle.std.specs.Prelude.{ℕ, suc, ◌+◌, ◌*◌, ◌-◌, min, Bool, not, if◌then◌else◌, List, [], ◌∷◌, ◌++◌, ◌==◌, slice_index_or}
 use Rattle.text_reader.specs.Field.{largest}
 use Rattle.text_reader.specs.Lines.{Line, number}

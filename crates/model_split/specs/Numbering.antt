@@ -1,4 +1,4 @@
--- New numbers for what a test holds of.
+-- Believed: new numbers for what a test holds of.
 use Rattle.std.specs.Prelude.{ℕ, zero, suc, ◌+◌, Bool, if◌then◌else◌, List, [], ◌∷◌, ◌++◌}
 use Rattle.base_laws.specs.Sum.{only}
 

@@ -1,4 +1,4 @@
--- The theorem of splitting.
+-- Believed: the theorem of splitting.
 use Rattle.std.specs.Prelude.{ℕ, suc, ◌+◌, ◌*◌, ◌-◌, ◌≤◌, ◌<◌, ◌≡◌, ◌↔◌, Bool, true, not, if◌then◌else◌, List, length, slice_index, take, Result, Ok, Err}
 use Rattle.base_search.specs.declared.Refusal.{Refusal}
 use Rattle.base_search.specs.Checks.{verdict}

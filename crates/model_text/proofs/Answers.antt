@@ -1,8 +1,9 @@
 -- The verdict by the answer of a call that writes a text, and the text by the buffer.
 use Rattle.base_laws.proofs.Kit.{ℕ, ◌≡◌, refl, sym, ◌∙◌, List, length, take, take_at}
 use Rattle.base_search.specs.declared.Refusal.{Refusal}
-use Rattle.text_reader.specs.Reading.{over}
-use Rattle.model_text.specs.Answers.{text_answer, bytes_after, Told}
+use Rattle.base_laws.specs.Indexed.{over}
+use Rattle.model_text.specs.Answers.{text_answer, bytes_after}
+use Rattle.model_text.specs.Told.{Told}
 use Rattle.std.specs.Prelude.{Result, Ok, Err}
 use Rattle.base_search.specs.Checks.{Verdict}
 

@@ -1,7 +1,7 @@
--- A call that writes a text: its answer, and the buffer after it.
-use Rattle.std.specs.Prelude.{ℕ, ◌≡◌, List, nat_le, length, Result, Ok, Err}
-use Rattle.base_search.specs.Checks.{checked, Verdict}
-use Rattle.text_reader.specs.Reading.{over}
+-- Believed: a call that writes a text: its answer, and the buffer after it.
+use Rattle.std.specs.Prelude.{ℕ, List, length, Result, Ok, Err}
+use Rattle.base_search.specs.Checks.{Verdict}
+use Rattle.base_laws.specs.Indexed.{over}
 use Rattle.base_search.specs.declared.Refusal.{Refusal}
 
 -- the answer by the verdict on a text, and the buffer after: the text, and the bytes past it as
@@ -13,12 +13,3 @@ text_answer text (Err r) = Err r
 unfoldable pub bytes_after : List ℕ → Verdict → List ℕ → List ℕ
 bytes_after text (Ok tt) old = over text old
 bytes_after text (Err r) old = old
-
--- the last check: a buffer that is too short is refused with this number
-abbrev pub room_verdict : ℕ → List ℕ → List ℕ → Verdict
-room_verdict number text old = checked (nat_le (length text) (length old)) number 0 0
-
--- a verdict was returned of a text, and the buffer is as it says
-pub record Told (text : List ℕ) (v : Verdict) (old : List ℕ) (answer : Result ℕ Refusal) (new : List ℕ) : Type 0 where
-  pub answered : answer ≡ text_answer text v
-  pub holds : new ≡ bytes_after text v old

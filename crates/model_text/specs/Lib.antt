@@ -1,2 +1,3 @@
 pub mod NetworkText
 pub mod Answers
+pub mod Told

@@ -1,4 +1,4 @@
--- A network by its numbers, as lines and as the text that is written of them.
+-- Believed: a network by its numbers, as lines and as the text that is written of them.
 use Rattle.std.specs.Prelude.{ℕ, List, [], ◌∷◌, ◌++◌, length, slice_index_or}
 use Rattle.text_reader.specs.Lines.{Line}
 use Rattle.text_writer.specs.Records.{record_text, record_texts, record_line, record_lines}

@@ -14,7 +14,8 @@ use Rattle.network_tables.specs.Tables.{CountsHold}
 use Rattle.model.specs.declared.Signal.{Signal}
 use Rattle.network.specs.Loading.{TablesJudged, LoadedFrom}
 use Rattle.network_tables.specs.declared.Counts.{Counts}
-use Rattle.network.specs.Counting.{counts_answer, count_network, CountPromises}
+use Rattle.network.specs.Counting.{counts_answer, count_network}
+use Rattle.network.specs.Counts.{CountPromises}
 use Rattle.std.specs.Prelude.{Result, Ok, Err}
 use Rattle.base_search.specs.Checks.{Verdict}
 

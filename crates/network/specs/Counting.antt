@@ -1,15 +1,11 @@
--- The call `count_network`: what a valid network has, as its `N` line says.
-use Rattle.std.specs.Prelude.{◌≡◌, List, Result, Ok, Err}
+-- Believed: the call `count_network`: what a valid network has, as its `N` line says.
+use Rattle.std.specs.Prelude.{List, Result, Ok, Err}
 use Rattle.base_search.specs.declared.Refusal.{Refusal}
 use Rattle.base_search.specs.Checks.{Verdict}
-use Rattle.base_search.specs.Numbers.{CanArise}
 use Rattle.text_reader.specs.Lines.{Line}
 use Rattle.model.specs.Network.{link_count, signal_count, movement_count, step_count, tram_count, past_count}
-use Rattle.model.specs.Accepted.{ValidNetwork}
 use Rattle.model.specs.Calls.{check_network}
-use Rattle.model.specs.Guarantees.{network_numbers}
 use Rattle.network_tables.specs.declared.Counts.{Counts}
-use Rattle.network_tables.specs.Places.{Few}
 
 -- the counts of a network
 abbrev pub counts_of : List Line → Counts
@@ -30,10 +26,3 @@ counts_answer network (Err r) = Err r
 
 unfoldable pub count_network : List Line → Result Counts Refusal
 count_network network = counts_answer network (check_network network)
-
--- a network whose counts are told is valid, the counts are within their limits, and the number of a
--- refusal is one that can arise
-pub record CountPromises (network : List Line) (answer : Result Counts Refusal) : Type 0 where
-  pub valid : (counts : Counts) → answer ≡ Ok counts → ValidNetwork network
-  pub few : (counts : Counts) → answer ≡ Ok counts → Few counts
-  pub refused-number : (r : Refusal) → answer ≡ Err r → CanArise network_numbers r.number

@@ -1,4 +1,4 @@
--- What the reading of a whole network asks and holds.
+-- Inner: what the reading of a whole network asks and holds.
 use Rattle.std.specs.Prelude.{ℕ, suc, ◌≤◌, ◌<◌, ◌≡◌, List, Result, Ok, Err, ◌==◌, length}
 use Rattle.base_search.specs.declared.Refusal.{Refusal}
 use Rattle.base_search.specs.Checks.{Checks, check, each, ◌then◌, Hold, verdict}

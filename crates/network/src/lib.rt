@@ -12,7 +12,8 @@ ghost use Rattle.model.specs.Guarantees.{NetworkPromises};
 ghost use Rattle.network_tables.specs.Tables.{Judged};
 ghost use Rattle.network_signals.specs.Stages.{SignalsHeld};
 ghost use Rattle.network.specs.Loading.{first_checks, FirstAsked, end_checks, EndAsked, TablesJudged, timeline_checks, TimelineAsked, TimelineHeld, Rooms, start_of, LoadedFrom, StartedFrom};
-ghost use Rattle.network.specs.Counting.{count_network, CountPromises};
+ghost use Rattle.network.specs.Counting.{count_network};
+ghost use Rattle.network.specs.Counts.{CountPromises};
 
 use base_search::{Reason, Refusal, checked};
 use model::Signal;

@@ -1,4 +1,4 @@
--- The test of a link by its numbers.
+-- Inner: the test of a link by its numbers.
 use Rattle.std.specs.Prelude.{ℕ, ◌-◌, ◌^◌, ◌≤◌, ◌<◌, Bool, if◌then◌else◌, List, nat_le, nat_lt, ◌==◌, length}
 use Rattle.model.specs.declared.Signal.{Signal}
 use Rattle.base_laws.specs.Test.{◌and◌, within}

@@ -1,4 +1,4 @@
--- The tests of movements by the table of the `M` lines. Links are numbered from 1.
+-- Inner: the tests of movements by the table of the `M` lines. Links are numbered from 1.
 use Rattle.std.specs.Prelude.{ℕ, zero, suc, ◌+◌, ◌-◌, ◌≤◌, ◌<◌, ◌≡◌, Bool, true, false, not, if◌then◌else◌, List, Option, MatchOption, nat_lt, ◌==◌, ◌^◌, length, slice_index}
 use Rattle.base_search.specs.Checks.{Checks, check}
 use Rattle.model.specs.Network.{max_links, max_movements}

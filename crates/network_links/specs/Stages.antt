@@ -1,5 +1,5 @@
--- What the stages of a network's reading that judge links and movements require, and what is held
--- where they pass.
+-- Inner: what the stages of a network's reading that judge links and movements require, and what is
+-- held where they pass.
 use Rattle.std.specs.Prelude.{ℕ, ◌≡◌, List, length, take}
 use Rattle.text_reader.specs.Lines.{lines}
 use Rattle.model.specs.declared.Signal.{Signal}

@@ -1,4 +1,4 @@
--- What is read of the `H` lines, and refusal 30 by the program's tables.
+-- Inner: what is read of the `H` lines, and refusal 30 by the program's tables.
 use Rattle.std.specs.Prelude.{ℕ, ◌+◌, ◌*◌, ◌≤◌, ◌<◌, ◌≡◌, Bool, List, nat_le, length, slice_index}
 use Rattle.base_search.specs.Checks.{Checks, check}
 use Rattle.text_reader.specs.Lines.{Line, lines}

@@ -14,7 +14,7 @@ use Rattle.network_tables.specs.declared.Reading.{Reading}
 use Rattle.network_tables.specs.Places.{signal_line_in}
 use Rattle.network_tables.specs.Rows.{RowRead, HeadRead}
 use Rattle.network_tables.proofs.Rows.{row_joined, head_joined}
-use Rattle.model.specs.Signals.{signal_fields, signal_by}
+use Rattle.model.specs.SignalRows.{signal_fields, signal_by}
 use Rattle.network_tables.specs.Tables.{Judged, moved_to}
 use Rattle.network_tables.proofs.Places.{signal-line-is}
 use Rattle.network_tables.proofs.Stages.{judged-refused, judged-passed}

@@ -9,7 +9,7 @@ use Rattle.base_laws.specs.Test.{◌and◌, ◌or◌, within, every}
 use Rattle.base_laws.specs.Indexed.{list}
 use Rattle.model.specs.Network.{entry, signal_line, signal}
 use Rattle.model.specs.Rules.{valid_signal}
-use Rattle.model.specs.Signals.{signal_by}
+use Rattle.model.specs.SignalRows.{signal_by}
 use Rattle.network_signals.specs.Signals.{valid_time, valid_times, shortest_time}
 
 -- the shortest time is the least over the list of the greatest times

@@ -1,4 +1,4 @@
--- What is read of the `N` line.
+-- Inner: what is read of the `N` line.
 use Rattle.std.specs.Prelude.{ℕ, Bool, List, nat_le}
 use Rattle.text_reader.specs.Lines.{lines}
 use Rattle.text_reader.specs.Reading.{Starts}

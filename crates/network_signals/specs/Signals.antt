@@ -1,4 +1,4 @@
--- What is read of the `G` lines.
+-- Inner: what is read of the `G` lines.
 use Rattle.std.specs.Prelude.{ℕ, zero, suc, Bool, min, nat_le, slice_index}
 use Rattle.model.specs.declared.Signal.{Signal}
 use Rattle.base_laws.specs.Test.{◌and◌, within, every}

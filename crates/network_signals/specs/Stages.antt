@@ -1,4 +1,4 @@
--- What the functions that read `G` lines require, and what is held where the lines pass.
+-- Inner: what the functions that read `G` lines require, and what is held where the lines pass.
 use Rattle.std.specs.Prelude.{ℕ, suc, ◌≤◌, ◌<◌, ◌≡◌, List, length, set}
 use Rattle.text_reader.specs.Lines.{lines}
 use Rattle.text_reader.specs.Reading.{Starts}

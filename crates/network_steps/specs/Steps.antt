@@ -1,5 +1,5 @@
--- The numbers of one `S` line, its length and then the demand of each link, and what the functions
--- that read such lines require and promise.
+-- Inner: the numbers of one `S` line, its length and then the demand of each link, and what the
+-- functions that read such lines require and promise.
 use Rattle.std.specs.Prelude.{ℕ, ◌+◌, ◌<◌, ◌≡◌, Bool, List, nat_le, length, slice_index}
 use Rattle.text_reader.specs.Lines.{lines}
 use Rattle.text_reader.specs.Reading.{Starts}

@@ -1,4 +1,4 @@
--- Lines of one letter that follow each other in a network text, and how far they are read.
+-- Inner: lines of one letter that follow each other in a network text, and how far they are read.
 use Rattle.std.specs.Prelude.{ℕ, suc, ◌+◌, ◌-◌, ◌≤◌, ◌<◌, ◌≡◌, Bool, true, false, List, length, slice_index_or, Result, Ok, Err}
 use Rattle.std.specs.Borrow.{Bor}
 use Rattle.base_search.specs.declared.Refusal.{Refusal}

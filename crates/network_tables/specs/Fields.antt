@@ -1,5 +1,5 @@
--- The numbers of the program's tables by their names in the model. Links, movements and signals are
--- counted from 0; a link's signal and a movement's links are named from 1.
+-- Inner: the numbers of the program's tables by their names in the model. Links, movements and
+-- signals are counted from 0; a link's signal and a movement's links are named from 1.
 use Rattle.std.specs.Prelude.{ℕ, suc, if◌then◌else◌, ◌==◌, ◌+◌, ◌*◌, ◌≤◌, ◌<◌, List, [], ◌∷◌, length, slice_index, slice_index_or}
 use Rattle.model.specs.declared.Signal.{Signal}
 use Rattle.model.specs.Network.{max_links, max_signals, max_movements, max_steps}

@@ -1,5 +1,5 @@
--- The places of lines in a network text and of numbers in a `P` line, from 0, by the counts of the
--- `N` line. proofs/Tables.antt shows that these are the model's places.
+-- Inner: the places of lines in a network text and of numbers in a `P` line, from 0, by the counts
+-- of the `N` line. proofs/Tables.antt shows that these are the model's places.
 use Rattle.std.specs.Prelude.{ℕ, ◌+◌, ◌*◌, ◌≤◌}
 use Rattle.model.specs.Network.{max_links, max_signals, max_movements, max_steps, max_trams, max_past}
 use Rattle.network_tables.specs.declared.Counts.{Counts}

@@ -1,5 +1,5 @@
--- What the reading of one line's numbers into a table promises, over the lines of the text: `i` is
--- the line that starts at the place.
+-- Inner: what the reading of one line's numbers into a table promises, over the lines of the text:
+-- `i` is the line that starts at the place.
 use Rattle.std.specs.Prelude.{ℕ, suc, ◌≤◌, ◌<◌, ◌≡◌, Bool, true, false, List, length, slice_index, slice_index_or, Option, Some, None}
 use Rattle.text_reader.specs.Lines.{lines, no_line, starts_as}
 use Rattle.text_reader.specs.Reading.{Starts}

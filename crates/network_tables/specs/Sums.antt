@@ -1,4 +1,4 @@
--- Numbers added to sums of 32 bits.
+-- Inner: numbers added to sums of 32 bits.
 use Rattle.std.specs.Prelude.{ℕ, ◌+◌, ◌≤◌, ◌<◌, ◌≡◌, ◌^◌, List, length, slice_index, Option, Some, None}
 
 -- one of the sums is too large for 32 bits

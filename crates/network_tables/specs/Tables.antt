@@ -1,5 +1,5 @@
--- What the program's tables hold of a network text while it is judged. These definitions are not
--- the model's: the contracts between the crates use them.
+-- Inner: what the program's tables hold of a network text while it is judged. These definitions are
+-- not the model's: the contracts between the crates use them.
 use Rattle.std.specs.Prelude.{ℕ, ◌+◌, ◌*◌, ◌≤◌, ◌<◌, ◌≡◌, List, nat_le, length, slice_index, Result, Ok, Err}
 use Rattle.base_search.specs.Checks.{Checks, verdict, Verdict}
 use Rattle.text_reader.specs.Lines.{Line, lines}

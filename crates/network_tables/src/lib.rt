@@ -3,7 +3,7 @@
 #![tactic(auto)]
 
 ghost use Rattle.std.specs.Prelude.{◌≡◌, ◌+◌, ◌*◌, ◌<◌, ◌≤◌, ◌^◌, true, length, get_or};
-ghost use Rattle.model.specs.Signals.{signal_fields};
+ghost use Rattle.model.specs.SignalRows.{signal_fields};
 ghost use Rattle.model.specs.Network.{max_links, max_signals, max_movements, max_steps, max_trams, max_past};
 ghost use Rattle.network_tables.specs.Places.{tram_line_in, signal_line_in, link_line_in, movement_line_in, timeline_line_in, step_line_in, plan_width, Few};
 ghost use Rattle.network_tables.specs.Fields.{step_size, line_size, counts_by, tram_by, tram_row, link_by, link_row, movement_by, movement_row, length_in, demand_in, admitted_in, let_out_in, moved_in, entered_in, left_in, entered_at, left_at, RowHeld};

@@ -1,4 +1,4 @@
--- What trams ask of the signals in a step, by the table of the `T` lines.
+-- Inner: what trams ask of the signals in a step, by the table of the `T` lines.
 use Rattle.std.specs.Prelude.{ℕ, zero, suc, ◌-◌, ◌≤◌, ◌<◌, ◌≡◌, Bool, true, ◌&&◌, if◌then◌else◌, List, nat_le, ◌==◌, length, slice_index, set}
 use Rattle.text_reader.specs.Lines.{Line, lines}
 use Rattle.text_reader.specs.Reading.{Starts}

@@ -1,4 +1,4 @@
--- What the reading of the `T` lines requires, and what is held where they pass.
+-- Inner: what the reading of the `T` lines requires, and what is held where they pass.
 use Rattle.std.specs.Prelude.{ℕ, ◌≡◌, List, length, take, Ok}
 use Rattle.base_search.specs.Checks.{verdict}
 use Rattle.text_reader.specs.Lines.{lines}

@@ -1,4 +1,4 @@
--- The tests of trams by their table.
+-- Inner: the tests of trams by their table.
 use Rattle.std.specs.Prelude.{ℕ, suc, ◌-◌, ◌≤◌, ◌<◌, ◌≡◌, Bool, not, List, nat_le, nat_lt, ◌==◌, length}
 use Rattle.base_search.specs.Checks.{Checks, check}
 use Rattle.model.specs.declared.Signal.{Signal}

@@ -1,6 +1,6 @@
 -- Numbers that go to the front of a row, one after another.
 use Rattle.base_laws.proofs.Kit.{ℕ, suc, ◌<◌, ◌≡◌, sym, ap, ◌∙◌, List, [], ◌∷◌, ◌++◌, arith, length, get_or, set, take, drop, length-append, take_at, drop-cons, set_at, append_snoc}
-use Rattle.text_reader.specs.Reading.{over}
+use Rattle.base_laws.specs.Indexed.{over}
 
 pub over-next : (a old : List ℕ) (x n : ℕ) → length a ≡ n → n < length old → set (over a old) n x ≡ over (a ++ (x ∷ [])) old
 unfolding over

@@ -2,10 +2,11 @@
 use Rattle.base_laws.proofs.Kit.{ℕ, zero, suc, ◌+◌, ◌≤◌, ◌<◌, ◌≡◌, refl, sym, ap, ◌∙◌, List, [], ◌∷◌, ◌++◌, append_assoc, append-nil, arith, le-leb, lt-leb, length, get_or}
 use Rattle.base_search.specs.declared.Refusal.{Refusal}
 use Rattle.base_search.specs.Checks.{refusal, checked}
-use Rattle.text_reader.specs.Reading.{over}
+use Rattle.base_laws.specs.Indexed.{over}
 use Rattle.text_writer.specs.Records.{record_text, record_texts}
 use Rattle.text_writer.specs.Writing.{put_at}
-use Rattle.model_text.specs.Answers.{text_answer, bytes_after, room_verdict, Told}
+use Rattle.model_text.specs.Answers.{text_answer, bytes_after}
+use Rattle.model_text.specs.Told.{room_verdict, Told}
 use Rattle.network_writer.specs.Put.{PutWhole}
 use Rattle.network_writer.specs.Texts.{line_texts}
 use Rattle.std.specs.Prelude.{Ok, Err}

@@ -1,4 +1,4 @@
--- A plan's lines by the program's table: a row for each step.
+-- Inner: a plan's lines by the program's table: a row for each step.
 use Rattle.std.specs.Prelude.{ℕ, ◌+◌, ◌*◌, ◌-◌, ◌≤◌, if◌then◌else◌, List, [], nat_lt, length, slice_index, slice_index_or}
 use Rattle.text_writer.specs.Records.{record_texts}
 use Rattle.base_laws.specs.Indexed.{list}

@@ -1,7 +1,7 @@
--- A text put line by line at the place of an output, as far as there is room.
+-- Inner: a text put line by line at the place of an output, as far as there is room.
 use Rattle.std.specs.Prelude.{ℕ, ◌+◌, ◌*◌, ◌≤◌, ◌≡◌, List, length}
 use Rattle.std.specs.Borrow.{MutBor}
-use Rattle.text_reader.specs.Reading.{over}
+use Rattle.base_laws.specs.Indexed.{over}
 use Rattle.text_writer.specs.Writing.{put_at}
 use Rattle.network_tables.specs.Fields.{line_size}
 use Rattle.network_writer.specs.declared.Output.{Output}

@@ -1,4 +1,5 @@
--- The text of lines of one letter, by a list of their numbers, and the rows of a table's items.
+-- Inner: the text of lines of one letter, by a list of their numbers, and the rows of a table's
+-- items.
 use Rattle.std.specs.Prelude.{ℕ, zero, suc, ◌<◌, ◌≡◌, List, [], ◌∷◌, ◌++◌, length, slice_index_or, Option, Some, None, option_to_list}
 use Rattle.text_writer.specs.Records.{record_text}
 

@@ -6,7 +6,7 @@
 ghost use Rattle.std.specs.Prelude.{ℕ, ◌≡◌, ◌≤◌, ◌<◌, List, length};
 ghost use Rattle.base_search.specs.Reasons.{reason_number};
 ghost use Rattle.text_writer.specs.Records.{record_text};
-ghost use Rattle.model_text.specs.Answers.{room_verdict, Told};
+ghost use Rattle.model_text.specs.Told.{room_verdict, Told};
 ghost use Rattle.network_tables.specs.Fields.{line_size};
 ghost use Rattle.network_tables.specs.Places.{plan_width, Few};
 ghost use Rattle.network_writer.specs.Put.{Put, Early, PutWhole, PutsWhole};

@@ -1,4 +1,4 @@
--- What the check of a plan promises.
+-- Inner: what the check of a plan promises.
 use Rattle.std.specs.Prelude.{ℕ, ◌≡◌, List, length, Result}
 use Rattle.text_reader.specs.Lines.{lines}
 use Rattle.model.specs.Hold.{plan_of}

@@ -1,5 +1,5 @@
--- Which of two plans is ahead: their curves of let-out volume, their order by these, and the answer
--- of the call.
+-- Believed: which of two plans is ahead: their curves of let-out volume, their order by these, and
+-- the answer of the call.
 use Rattle.std.specs.Prelude.{ℕ, suc, Bool, true, false, List, nat_le, Result, Ok, Err}
 use Rattle.std.proofs.Math.IntN.{sub_ℕ}
 use Rattle.text_reader.specs.Lines.{Line}

@@ -1,4 +1,4 @@
--- The curves as the program reads them again from the two plan texts, line after line.
+-- Inner: the curves as the program reads them again from the two plan texts, line after line.
 use Rattle.std.specs.Prelude.{ℕ, suc, ◌*◌, ◌≤◌, ◌<◌, ◌≡◌, Bool, true, List, nat_le, nat_lt, length}
 use Rattle.text_reader.specs.Lines.{lines}
 use Rattle.text_reader.specs.Reading.{Starts}

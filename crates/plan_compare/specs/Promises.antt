@@ -1,4 +1,4 @@
--- What a comparison of two plans promises, and the theorem of comparing.
+-- Believed: what a comparison of two plans promises, and the theorem of comparing.
 use Rattle.std.specs.Prelude.{ℕ, ◌≤◌, ◌<◌, ◌≡◌, ◌↔◌, List, length, ℤ, pos, neg_ℤ, ◌≤ℤ◌, ◌<ℤ◌, Result, Ok, Err}
 use Rattle.std.proofs.Math.IntN.{sub_ℕ}
 use Rattle.base_search.specs.Checks.{Hold}

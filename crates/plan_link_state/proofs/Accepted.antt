@@ -22,7 +22,8 @@ use Rattle.model.proofs.Rows.{written_at, length-written}
 use Rattle.model.proofs.Written.{rows_all}
 use Rattle.step_arrivals.specs.Arrivals.{scaled_in}
 use Rattle.plan_link_state.specs.declared.Arrived.{Arrived}
-use Rattle.plan_link_state.specs.State.{PlanState, PlanStates, arrived_in}
+use Rattle.plan_link_state.specs.State.{arrived_in}
+use Rattle.plan_link_state.specs.PlanStates.{PlanState, PlanStates}
 use Rattle.plan_link_state.proofs.Ledger.{arrived-of, state-told}
 use Rattle.plan_link_state.proofs.State.{state-is}
 use Rattle.std.specs.Prelude.{Result, Ok}

@@ -1,13 +1,13 @@
--- The state of a link by the tables of a network that has passed and a ledger.
-use Rattle.std.specs.Prelude.{ℕ, suc, ◌+◌, ◌*◌, ◌-◌, ◌/◌, ◌≤◌, ◌<◌, ◌≡◌, true, false, if◌then◌else◌, List, [], nat_le, length, Result, Err, Ok}
+-- Inner: the state of a link by the tables of a network that has passed and a ledger.
+use Rattle.std.specs.Prelude.{ℕ, suc, ◌*◌, ◌-◌, ◌/◌, ◌≤◌, ◌<◌, ◌≡◌, if◌then◌else◌, List, [], nat_le, length, Result, Err, Ok}
 use Rattle.base_search.specs.Checks.{refusal, Hold}
 use Rattle.text_reader.specs.Lines.{Line, lines}
 use Rattle.text_reader.specs.Reading.{Starts}
 use Rattle.base_laws.specs.Test.{◌and◌}
 use Rattle.model.specs.Network.{link_count, step_count, past_count, on_timeline, timeline_line, travel_time, standing, time, timeline_time, arrival_step}
-use Rattle.model.specs.Flows.{timeline_entered, left, has_arrived, held}
-use Rattle.model.specs.Table.{network_checks, plan_checks}
-use Rattle.model.specs.Calls.{state_of, end_length, scaled_arrived, rises_inside, ledger_after}
+use Rattle.model.specs.Flows.{timeline_entered, left}
+use Rattle.model.specs.Table.{network_checks}
+use Rattle.model.specs.Calls.{state_of, end_length, scaled_arrived, rises_inside}
 use Rattle.network_tables.specs.declared.NetworkTables.{NetworkTables}
 use Rattle.network_tables.specs.Fields.{entered_at}
 use Rattle.network_tables.specs.Tables.{CountsHold, LinkTable, TimeTable}
@@ -63,20 +63,3 @@ state_from entered left arrived =
     then Ok (state_of (arrived.scaled / arrived.seconds - left)
     (entered - arrived.scaled / arrived.seconds))
     else Err (refusal 21 0 0)
-
--- The state of link i, from 0, at a boundary, by a plan: what is queued is the most that has
--- arrived and not left, and the rest of what the link holds is in transit.
-pub record PlanState (network plan : List Line) (boundary i : ℕ) (answer : Result LinkState Refusal) : Type 0 where
-  pub queued : ℕ
-  pub in-transit : ℕ
-  pub told : answer ≡ Ok (state_of queued in-transit)
-  pub arrived : has_arrived network plan (left network plan boundary i + queued) boundary i ≡ true
-  pub no_more : has_arrived network plan (left network plan boundary i + queued + 1) boundary i ≡ false
-  pub whole : queued + in-transit ≡ held network plan boundary i
-
--- On the ledger that the check of an accepted plan leaves, whatever the ledger held before, the
--- state of every link is told at every boundary, and it is that of the plan.
-abbrev pub PlanStates : List Line → List ℕ → ℕ → ℕ → Result LinkState Refusal → Type 0
-PlanStates network ledger boundary link answer =
-    (plan : List Line) (before : List ℕ) → Hold (plan_checks network plan (length before)) → ledger ≡ ledger_after network plan before
-    → boundary ≤ step_count network → 1 ≤ link → link ≤ link_count network → PlanState network plan boundary (link - 1) answer

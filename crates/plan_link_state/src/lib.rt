@@ -6,7 +6,8 @@ ghost use Rattle.text_reader.specs.Lines.{lines};
 ghost use Rattle.text_reader.specs.Padding.{PaddingIgnored};
 ghost use Rattle.model.specs.Calls.{link_state};
 ghost use Rattle.model.specs.Guarantees.{StatePromises};
-ghost use Rattle.plan_link_state.specs.State.{Tabled, OverAsked, EnteredOver, arrived_in, ArrivedAsked, state_from, PlanStates};
+ghost use Rattle.plan_link_state.specs.State.{Tabled, OverAsked, EnteredOver, arrived_in, ArrivedAsked, state_from};
+ghost use Rattle.plan_link_state.specs.PlanStates.{PlanStates};
 
 use base_search::{Reason, Refusal, checked};
 use model::{LinkState, Signal};

@@ -1,4 +1,4 @@
--- The `P` line of a step, read from the plan's text or, where that is empty, made.
+-- Inner: the `P` line of a step, read from the plan's text or, where that is empty, made.
 use Rattle.std.specs.Prelude.{ℕ, ◌+◌, ◌*◌, ◌<◌, ◌≡◌, Bool, List, length, Option, Some}
 use Rattle.text_reader.specs.Lines.{Line}
 use Rattle.text_reader.specs.Reading.{Starts}

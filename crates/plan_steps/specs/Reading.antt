@@ -1,4 +1,4 @@
--- What reading the lines of a step requires and promises.
+-- Inner: what reading the lines of a step requires and promises.
 use Rattle.std.specs.Prelude.{ℕ, ◌+◌, ◌≤◌, ◌<◌, ◌≡◌, true, false, List, length, slice_index, Option, MatchOption}
 use Rattle.base_search.specs.Checks.{Hold}
 use Rattle.text_reader.specs.Lines.{lines}

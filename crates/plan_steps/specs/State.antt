@@ -1,4 +1,4 @@
--- What taking the steps of a plan one after another requires and promises.
+-- Inner: what taking the steps of a plan one after another requires and promises.
 use Rattle.std.specs.Prelude.{ℕ, suc, ◌+◌, ◌*◌, ◌≤◌, ◌<◌, ◌≡◌, if◌then◌else◌, List, length, Result, Ok, Err, MatchResult}
 use Rattle.base_search.specs.declared.Refusal.{Refusal}
 use Rattle.base_search.specs.Checks.{refusal, verdict}

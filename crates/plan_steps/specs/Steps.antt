@@ -1,5 +1,5 @@
--- What taking the steps of a plan one after another requires and promises: the first of them, and
--- all.
+-- Inner: what taking the steps of a plan one after another requires and promises: the first of
+-- them, and all.
 use Rattle.std.specs.Prelude.{ℕ, suc, ◌*◌, ◌≤◌, ◌<◌, ◌≡◌, List, length, Result, Ok, Err, MatchResult}
 use Rattle.base_search.specs.declared.Refusal.{Refusal}
 use Rattle.base_search.specs.Checks.{verdict}

@@ -1,4 +1,4 @@
--- The totals with one step more, by the program's tables.
+-- Inner: the totals with one step more, by the program's tables.
 use Rattle.std.specs.Prelude.{ℕ, ◌+◌, ◌*◌, ◌-◌, ◌≤◌, ◌≡◌, List, length}
 use Rattle.model.specs.declared.Totals.{Totals}
 use Rattle.base_laws.specs.Sum.{sum}

@@ -6,7 +6,7 @@ use Rattle.base_search.specs.Numbers.{CanArise}
 use Rattle.plan_compare.specs.declared.Order.{Order}
 use Rattle.plan_compare.specs.declared.Order.TheVariants.{Ahead, Behind, Equal, Crossing}
 use Rattle.cells_call.specs.declared.CellsRun.{CellsRun}
-use Rattle.cells_call.specs.Call.{volumes_in}
+use Rattle.cells_call.specs.Volumes.{volumes_in}
 use Rattle.plan_compare.specs.declared.Comparison.{Comparison}
 use Rattle.plan_compare.specs.declared.ComparisonRefusal.{ComparisonRefusal}
 use Rattle.plan_compare.specs.declared.ComparisonRefusal.TheVariants.{Network, First, Second}

@@ -1,5 +1,5 @@
--- The numbers that the C library gives for each answer: a refusal's number, line and item, or
--- number 0 and the values.
+-- Believed: the numbers that the C library gives for each answer: a refusal's number, line and
+-- item, or number 0 and the values.
 use Rattle.std.specs.Prelude.{ℕ, if◌then◌else◌, List, ◌≡◌, ◌≢◌, ◌==◌, pos, Result, Ok, Err}
 use Rattle.base_search.specs.Checks.{refusal, Checks, Hold, Verdict}
 use Rattle.base_search.specs.Numbers.{CanArise}

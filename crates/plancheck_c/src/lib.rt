@@ -14,7 +14,8 @@ ghost use Rattle.model.specs.Guarantees.{network_numbers, state_numbers, plan_nu
 ghost use Rattle.traces.specs.Call.{step_checks, vehicles_numbers, step_vehicles, places_after};
 ghost use Rattle.traces.specs.Guarantees.{StepKeeps};
 ghost use Rattle.cells_lines.specs.Corridor.{corridor_checks};
-ghost use Rattle.cells_call.specs.Call.{cells_numbers, run_cells, volumes_in, final_volumes, RunKeeps};
+ghost use Rattle.cells_call.specs.Call.{cells_numbers, run_cells, final_volumes, RunKeeps};
+ghost use Rattle.cells_call.specs.Volumes.{volumes_in};
 ghost use Rattle.listing_lines.specs.Entry.{entries};
 ghost use Rattle.listing_call.specs.Listing as Listing;
 ghost use Rattle.listing_call.specs.Listing.{listing_numbers, plan_from_listing};
@@ -26,7 +27,7 @@ ghost use Rattle.carry.specs.Carrying.{CarryGot};
 ghost use Rattle.model_sheet.specs.Cycle.{write_checks};
 ghost use Rattle.model_sheet.specs.Calls.{sheet_numbers, sheet_plan_numbers, keep_checks, check_sheet, plan_from_sheet};
 ghost use Rattle.model_sheet.specs.Promises.{SheetPromises, WritePromises};
-ghost use Rattle.plan_link_state.specs.State.{PlanStates};
+ghost use Rattle.plan_link_state.specs.PlanStates.{PlanStates};
 ghost use Rattle.plan_compare.specs.Comparison.{compare_plans, second_ledger_after};
 ghost use Rattle.plan_compare.specs.Promises.{ComparisonPromises, ComparisonLedgers, ComparisonGot};
 ghost use Rattle.model_split.specs.Call.{split_numbers, split_checks, split_network};

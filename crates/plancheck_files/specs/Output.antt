@@ -1,4 +1,4 @@
--- What the program prints. Nothing can say what a file holds: a text is what was read of it.
+-- Inner: what the program prints. Nothing can say what a file holds: a text is what was read of it.
 use Rattle.std.specs.Prelude.{ℕ, List, Option, Some, None}
 use Rattle.model.specs.Report.{report, not_read}
 

@@ -1,4 +1,4 @@
--- What is promised of a file that was read, where what there was to read is known.
+-- Inner: what is promised of a file that was read, where what there was to read is known.
 use Rattle.std.specs.Prelude.{ℕ, ◌≤◌, ◌≡◌, List, length, Option, IfSome}
 
 -- a text is all that there was to read

@@ -1,4 +1,4 @@
--- The text of a plan's answer, with the rows as they stand in a ledger.
+-- Inner: the text of a plan's answer, with the rows as they stand in a ledger.
 use Rattle.std.specs.Prelude.{ℕ, List, [], ◌∷◌, ◌++◌, Result, Ok, Err}
 use Rattle.text_writer.specs.Records.{record_text}
 use Rattle.base_search.specs.declared.Refusal.{Refusal}

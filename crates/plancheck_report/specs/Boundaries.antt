@@ -1,4 +1,4 @@
--- The `B` records of an accepted plan, as its rows stand in a ledger, and what their writing
+-- Inner: the `B` records of an accepted plan, as its rows stand in a ledger, and what their writing
 -- requires.
 use Rattle.std.specs.Prelude.{ℕ, suc, ◌+◌, ◌-◌, ◌*◌, ◌≤◌, ◌≡◌, List, ◌∷◌, length, take, drop, slice_index}
 use Rattle.text_writer.specs.Records.{record_texts}

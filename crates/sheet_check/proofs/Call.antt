@@ -27,7 +27,8 @@ use Rattle.plan_check.specs.Plan.{PlanGot}
 use Rattle.sheet_lines.specs.Sheet.{sheet_checks}
 use Rattle.sheet_lines.specs.Reading.{SheetAsked, SheetRead}
 use Rattle.sheet_lines.proofs.Network.{sheet-asked, sheet-told, sheet-number}
-use Rattle.model_sheet.specs.Runs.{is_tested, last_line, found, earlier, least_line, least_item, pass_verdict, run_checks}
+use Rattle.model_sheet.specs.Runs.{is_tested, last_line, run_checks}
+use Rattle.model_sheet.specs.Pass.{found, earlier, least_line, least_item, pass_verdict}
 use Rattle.model_sheet.specs.Calls.{accept_checks, keep_checks, check_sheet, rows_after, sheet_ledger}
 use Rattle.model_sheet.specs.Promises.{SheetPromises}
 use Rattle.model_sheet.proofs.Steps.{time-zero}

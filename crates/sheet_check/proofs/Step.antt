@@ -27,7 +27,8 @@ use Rattle.plan_steps.proofs.Reading.{cleared-lent}
 use Rattle.plan_steps.proofs.Steps.{signals-next}
 use Rattle.sheet_lines.specs.Sheet.{duration, phases_of}
 use Rattle.sheet_lines.specs.Reading.{line_in}
-use Rattle.model_sheet.specs.Runs.{leaves, is_tested, last_line, keeps_sheet, found}
+use Rattle.model_sheet.specs.Runs.{leaves, is_tested, last_line, keeps_sheet}
+use Rattle.model_sheet.specs.Pass.{found}
 use Rattle.model_sheet.proofs.Checks.{two-phases}
 use Rattle.sheet_check.specs.declared.Watch.{Watch}
 use Rattle.sheet_check.specs.declared.Pass.{Pass}

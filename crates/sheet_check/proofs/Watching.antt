@@ -8,7 +8,7 @@ use Rattle.base_laws.specs.Test.{◌and◌}
 use Rattle.network_tables.specs.Fields.{signal_at}
 use Rattle.sheet_lines.specs.Reading.{line_in}
 use Rattle.plan_steps.specs.declared.Lines.{Lines}
-use Rattle.model_sheet.specs.Runs.{earlier, least_line, least_item, told_run, pass_verdict}
+use Rattle.model_sheet.specs.Pass.{earlier, least_line, least_item, told_run, pass_verdict}
 use Rattle.sheet_check.specs.declared.Watch.{Watch}
 use Rattle.sheet_check.specs.declared.Pass.{Pass}
 use Rattle.sheet_check.specs.Watch.{no_watch, watch_in, first_broken, watch_after, next_watch, duration_in, Watched}

@@ -1,4 +1,4 @@
--- What the functions of the call require and promise.
+-- Inner: what the functions of the call require and promise.
 use Rattle.std.specs.Prelude.{ℕ, ◌+◌, ◌≤◌, ◌<◌, ◌≡◌, List, length}
 use Rattle.base_search.specs.Checks.{verdict, Hold, Verdict}
 use Rattle.text_reader.specs.Lines.{Line, lines}

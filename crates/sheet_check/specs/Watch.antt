@@ -1,5 +1,5 @@
--- What is watched of each signal in the pass over the steps of an accepted plan: the numbers of 34,
--- by the program's tables.
+-- Inner: what is watched of each signal in the pass over the steps of an accepted plan: the numbers
+-- of 34, by the program's tables.
 use Rattle.std.specs.Prelude.{ℕ, ◌+◌, ◌-◌, ◌≤◌, ◌<◌, ◌≡◌, false, if◌then◌else◌, not, List, nat_le, ◌==◌, length, slice_index, slice_index_or}
 use Rattle.text_reader.specs.Lines.{Line}
 use Rattle.model.specs.declared.Signal.{Signal}
@@ -7,7 +7,8 @@ use Rattle.base_laws.specs.Test.{◌and◌}
 use Rattle.model.specs.Network.{max_signals, max_steps, signal_count}
 use Rattle.network_tables.specs.Fields.{signal_at}
 use Rattle.sheet_lines.specs.Reading.{sheet_fields, line_in, number_in}
-use Rattle.model_sheet.specs.Runs.{is_tested, last_line, found}
+use Rattle.model_sheet.specs.Runs.{is_tested, last_line}
+use Rattle.model_sheet.specs.Pass.{found}
 use Rattle.step_signals.specs.Ready.{Ready, AllReady}
 use Rattle.plan_steps.specs.declared.Lines.{Lines}
 use Rattle.sheet_check.specs.declared.Watch.{Watch}

@@ -1,4 +1,4 @@
--- What the reading of a sheet into a table requires and promises.
+-- Inner: what the reading of a sheet into a table requires and promises.
 use Rattle.std.specs.Prelude.{ℕ, ◌+◌, ◌≤◌, ◌<◌, ◌≡◌, Bool, true, false, List, [], length, slice_index, slice_index_or, Option, Some, None, Ok}
 use Rattle.base_search.specs.Checks.{verdict, Verdict}
 use Rattle.text_reader.specs.Lines.{Line, lines}

@@ -1,6 +1,6 @@
--- A fixed-time sheet: line r is that of signal r, `F` and one duration a phase; to write a plan the
--- offset after them, the seconds of the cycle, phase 1 first, that have run at time 0. Signals are
--- counted from 0 here, phases from 1.
+-- Believed: a fixed-time sheet: line r is that of signal r, `F` and one duration a phase; to write
+-- a plan the offset after them, the seconds of the cycle, phase 1 first, that have run at time 0.
+-- Signals are counted from 0 here, phases from 1.
 use Rattle.std.specs.Prelude.{ℕ, zero, suc, ◌+◌, ◌-◌, Bool, true, List, nat_lt, ◌==◌, length, slice_index}
 use Rattle.base_search.specs.Checks.{Checks, check, each, ◌then◌}
 use Rattle.text_reader.specs.Lines.{Line}

@@ -32,7 +32,8 @@ use Rattle.network.specs.Loading.{TablesLoaded}
 use Rattle.sheet_lines.specs.Sheet.{phases_of, sheet_checks}
 use Rattle.sheet_lines.specs.Reading.{line_in, number_in, SheetAsked, SheetRead}
 use Rattle.sheet_lines.proofs.Network.{signals-there, signal-there, sheet-asked, sheet-told, sheet-number}
-use Rattle.model_text.specs.Answers.{text_answer, bytes_after, room_verdict, Told}
+use Rattle.model_text.specs.Answers.{text_answer, bytes_after}
+use Rattle.model_text.specs.Told.{room_verdict, Told}
 use Rattle.model_sheet.specs.Cycle.{place_at, phase_from, phase_at, fits_at, has_no_tram, sheet_phase, can_write, boundary_checks, sheet_numbers, sheet_text, write_checks}
 use Rattle.model_sheet.specs.Calls.{plan_from_sheet, buffer_after}
 use Rattle.model_sheet.specs.Promises.{WritePromises}

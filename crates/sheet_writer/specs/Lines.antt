@@ -1,4 +1,4 @@
--- The plan's lines by the masks of its steps: every volume is 0.
+-- Inner: the plan's lines by the masks of its steps: every volume is 0.
 use Rattle.std.specs.Prelude.{ℕ, ◌≤◌, ◌<◌, ◌≡◌, List, [], nat_lt, length, slice_index, slice_index_or}
 use Rattle.text_writer.specs.Records.{record_texts}
 use Rattle.base_laws.specs.Indexed.{list}

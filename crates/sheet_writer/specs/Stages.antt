@@ -1,4 +1,4 @@
--- What the functions of the call require and promise.
+-- Inner: what the functions of the call require and promise.
 use Rattle.std.specs.Prelude.{ℕ, ◌≤◌, ◌<◌, ◌≡◌, List, [], length, slice_index_or, Result, Ok}
 use Rattle.base_search.specs.declared.Refusal.{Refusal}
 use Rattle.base_search.specs.Checks.{or_else, verdict, Verdict}
@@ -9,7 +9,7 @@ use Rattle.network_tables.specs.declared.Tram.{Tram}
 use Rattle.network_tables.specs.Fields.{signal_at}
 use Rattle.sheet_lines.specs.Sheet.{sheet_checks}
 use Rattle.sheet_lines.specs.Reading.{line_in}
-use Rattle.model_text.specs.Answers.{room_verdict, Told}
+use Rattle.model_text.specs.Told.{room_verdict, Told}
 use Rattle.model_sheet.specs.Cycle.{boundary_checks, sheet_text}
 use Rattle.sheet_writer.specs.Tables.{CycleFits, TimesAsked, boundary_checks_in, MasksHeld}
 

@@ -1,5 +1,5 @@
--- A sheet's cycles by the program's tables: one line's numbers, the times of the boundaries, and
--- the masks, a row of eight a step.
+-- Inner: a sheet's cycles by the program's tables: one line's numbers, the times of the boundaries,
+-- and the masks, a row of eight a step.
 use Rattle.std.specs.Prelude.{ℕ, suc, ◌+◌, ◌-◌, ◌^◌, ◌≤◌, ◌<◌, ◌≡◌, Bool, not, ◌≢◌, List, [], nat_lt, ◌==◌, length, slice_index, slice_index_or, Option, Some, None, true, false}
 use Rattle.base_search.specs.Checks.{Checks, check, each}
 use Rattle.text_writer.specs.Records.{record_texts}

@@ -11,7 +11,7 @@ ghost use Rattle.model_sheet.specs.Promises.{WritePromises};
 ghost use Rattle.sheet_writer.specs.Tables.{CycleFits, RunAt, NextAsked, NextRun, ColumnAsked, ColumnGot, has_no_tram_in};
 ghost use Rattle.sheet_writer.specs.Stages.{MasksAsked, MasksGot, SheetWritten};
 ghost use Rattle.sheet_writer.specs.Lines.{FrontSet, mask_lines, LinesAsked};
-ghost use Rattle.model_text.specs.Answers.{room_verdict, Told};
+ghost use Rattle.model_text.specs.Told.{room_verdict, Told};
 ghost use Rattle.network_writer.specs.Put.{PutWhole};
 
 use base_search::{Reason, Refusal};

@@ -28,7 +28,8 @@ use Rattle.model_split.proofs.Promises.{split-in-two}
 use Rattle.split_checks.specs.Tables.{PartsAsked}
 use Rattle.split_checks.specs.Network.{SplitTold, PartsTold}
 use Rattle.split_checks.specs.Plan.{FormAsked, FormTold}
-use Rattle.split.specs.Splitting.{texts, Passed, HalvesJudged, BothHalves, WriteAsked, fits, buffers, buffer_contents, WrittenWhere, HalvesWritten, SplitGot}
+use Rattle.split.specs.Splitting.{texts, buffers, SplitGot}
+use Rattle.split.specs.Writing.{Passed, HalvesJudged, BothHalves, WriteAsked, fits, buffer_contents, WrittenWhere, HalvesWritten}
 use Rattle.std.specs.Prelude.{Result, Ok, Err}
 use Rattle.model_split.specs.declared.Lengths.{Lengths}
 

@@ -3,7 +3,7 @@ use Rattle.base_laws.proofs.Kit.{◌≤◌, ◌≡◌, refl, sym, ap, ◌∙◌,
 use Rattle.base_search.specs.Checks.{refusal, checked, Verdict}
 use Rattle.base_search.proofs.Laws.{checked-true, checked-passes, checked_refused}
 use Rattle.base_search.specs.declared.Refusal.{Refusal}
-use Rattle.text_reader.specs.Reading.{over}
+use Rattle.base_laws.specs.Indexed.{over}
 use Rattle.base_laws.specs.Test.{◌and◌}
 use Rattle.base_laws.proofs.Tests.{and_left, and_right, not-both}
 use Rattle.network_writer.specs.Put.{PutWhole}
@@ -15,7 +15,8 @@ use Rattle.split_tables.specs.declared.Whole.{Whole}
 use Rattle.split_tables.specs.declared.Halves.{Halves}
 use Rattle.split_tables.specs.Whole.{whole_network, whole_plan}
 use Rattle.split_text.specs.Halves.{OneHalf, Held, PlanPut, NetworkPut}
-use Rattle.split.specs.Splitting.{buffers, BothHalves, Measured, fits, HalvesWritten}
+use Rattle.split.specs.Splitting.{buffers}
+use Rattle.split.specs.Writing.{BothHalves, Measured, fits, HalvesWritten}
 use Rattle.std.specs.Prelude.{Ok, Err}
 
 -- ---- the two halves

@@ -4,7 +4,8 @@
 ghost use Rattle.std.specs.Prelude.{◌≡◌};
 ghost use Rattle.text_reader.specs.Padding.{PaddingIgnored};
 ghost use Rattle.model_split.specs.Splits.{SplitInTwo};
-ghost use Rattle.split.specs.Splitting.{texts, buffers, Passed, HalvesJudged, WriteAsked, Measured, fits, buffer_contents, SameLent, HalvesWritten, SplitGot};
+ghost use Rattle.split.specs.Splitting.{texts, buffers, SplitGot};
+ghost use Rattle.split.specs.Writing.{Passed, HalvesJudged, WriteAsked, Measured, fits, buffer_contents, SameLent, HalvesWritten};
 
 use base_search::{Reason, Refusal, checked};
 use model::Signal;

@@ -1,4 +1,4 @@
--- What the tests of 40 and 41 require of a network that has passed, and what they find.
+-- Inner: what the tests of 40 and 41 require of a network that has passed, and what they find.
 use Rattle.std.specs.Prelude.{ℕ, ◌/◌, ◌^◌, ◌≡◌, Bool, List, nat_lt}
 use Rattle.base_search.specs.Checks.{Hold}
 use Rattle.text_reader.specs.Lines.{Line}

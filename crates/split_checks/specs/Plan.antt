@@ -1,5 +1,5 @@
--- The form of a plan's lines (9), by the counts and the signals of a network that has passed. A
--- text without bytes means hold.
+-- Inner: the form of a plan's lines (9), by the counts and the signals of a network that has
+-- passed. A text without bytes means hold.
 use Rattle.std.specs.Prelude.{ℕ, suc, ◌+◌, ◌*◌, ◌≤◌, ◌<◌, ◌≡◌, Bool, true, false, List, length, Option, Some, None}
 use Rattle.base_search.specs.Checks.{verdict, Hold, Verdict}
 use Rattle.text_reader.specs.Lines.{lines}

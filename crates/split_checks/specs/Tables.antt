@@ -1,5 +1,5 @@
--- What 40 and 41 require of links and movements, by the tables of a network and the numbers of the
--- links in its first half.
+-- Inner: what 40 and 41 require of links and movements, by the tables of a network and the numbers
+-- of the links in its first half.
 use Rattle.std.specs.Prelude.{ℕ, ◌-◌, ◌≤◌, ◌<◌, Bool, not, List, ◌==◌, slice_index}
 use Rattle.base_laws.specs.Test.{◌and◌, ◌or◌, every}
 use Rattle.model.specs.Network.{max_signals}

@@ -1,4 +1,4 @@
--- Both halves numbered by the set of links in the first.
+-- Inner: both halves numbered by the set of links in the first.
 use Rattle.std.specs.Prelude.{ℕ, suc, ◌≤◌, ◌<◌, Bool, not, List, ◌==◌, length}
 use Rattle.text_reader.specs.Lines.{Line}
 use Rattle.base_laws.specs.Test.{◌or◌, every}

@@ -1,4 +1,5 @@
--- Items that a closure is asked for, one by one, and new numbers for those that a test holds of.
+-- Inner: items that a closure is asked for, one by one, and new numbers for those that a test holds
+-- of.
 use Rattle.std.specs.Prelude.{ℕ, suc, ◌<◌, ◌≡◌, Bool, List, slice_index}
 use Rattle.base_laws.specs.Sum.{only}
 use Rattle.model_split.specs.Numbering.{rank}

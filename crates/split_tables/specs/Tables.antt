@@ -1,5 +1,5 @@
--- The tables of one half of a network: the new number of each link, signal and movement, from 1,
--- and 0 for what is not in the half.
+-- Inner: the tables of one half of a network: the new number of each link, signal and movement,
+-- from 1, and 0 for what is not in the half.
 use Rattle.std.specs.Prelude.{ℕ, suc, ◌-◌, ◌≤◌, ◌<◌, ◌≡◌, Bool, not, if◌then◌else◌, List, ◌==◌, length, slice_index}
 use Rattle.text_reader.specs.Lines.{Line}
 use Rattle.base_laws.specs.Test.{◌and◌}

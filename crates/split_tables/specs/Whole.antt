@@ -1,4 +1,4 @@
--- What is split, in lines.
+-- Inner: what is split, in lines.
 use Rattle.std.specs.Prelude.{List}
 use Rattle.text_reader.specs.Lines.{Line, lines}
 use Rattle.model.specs.Hold.{plan_of}

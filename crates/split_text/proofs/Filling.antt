@@ -1,6 +1,6 @@
 -- Numbers put into a row, one behind another.
 use Rattle.base_laws.proofs.Kit.{ℕ, ◌+◌, ◌≤◌, ◌<◌, ◌≡◌, refl, sym, ap, ◌∙◌, ◌≢◌, List, [], ◌∷◌, ◌++◌, append_assoc, append-nil, add-one, arith, eq-eqb, ne_eqb, get_or, set, drop, take, length, length-append, length-drop, length-set, length-take, get_or-take}
-use Rattle.text_reader.specs.Reading.{over}
+use Rattle.base_laws.specs.Indexed.{over}
 use Rattle.network_writer.proofs.Filling.{over-next}
 use Rattle.model_split.specs.Numbering.{picked}
 use Rattle.split_tables.specs.Items.{Gives}

@@ -5,7 +5,7 @@ use Rattle.text_reader.specs.Lines.{Line}
 use Rattle.text_writer.specs.Records.{record_text}
 use Rattle.base_laws.specs.Indexed.{list}
 use Rattle.model.specs.declared.Signal.{Signal}
-use Rattle.model.specs.Signals.{signal_row}
+use Rattle.model.specs.SignalRows.{signal_row}
 use Rattle.model.specs.Network.{max_links, max_signals, max_movements, entry, signal_line, signal}
 use Rattle.model.specs.Table.{letter_n, letter_t, letter_g, letter_q, letter_m}
 use Rattle.network_tables.specs.declared.Counts.{Counts}

@@ -1,7 +1,7 @@
 -- The `S` and the `P` line of a step, read, filled and put.
 use Rattle.base_laws.proofs.Kit.{ℕ, suc, ◌+◌, ◌<◌, ◌≡◌, refl, sym, ap, ◌∙◌, List, [], ◌∷◌, add-one, arith, length, get_or, set, take, replicate, length-replicate}
 use Rattle.text_reader.specs.Lines.{lines}
-use Rattle.text_reader.specs.Reading.{over}
+use Rattle.base_laws.specs.Indexed.{over}
 use Rattle.text_writer.specs.Records.{record_text}
 use Rattle.model.specs.Network.{on_timeline, timeline_line, step_line}
 use Rattle.model.specs.Table.{letter_p, letter_s}

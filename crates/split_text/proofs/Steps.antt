@@ -1,7 +1,7 @@
 -- The `S` lines and the `P` lines of all steps, put one behind another.
 use Rattle.base_laws.proofs.Kit.{ℕ, ◌+◌, ◌<◌, ◌≡◌, refl, ◌∙◌, List, add-one, arith}
 use Rattle.text_reader.specs.Lines.{lines}
-use Rattle.text_reader.specs.Reading.{over}
+use Rattle.base_laws.specs.Indexed.{over}
 use Rattle.text_reader.proofs.Laws.{starts_first}
 use Rattle.text_writer.specs.Records.{record_texts}
 use Rattle.text_writer.specs.Writing.{put_at}

@@ -1,7 +1,7 @@
 -- The lines that are put, one block behind another, are the half's.
 use Rattle.base_laws.proofs.Kit.{ℕ, ◌+◌, ◌*◌, ◌≤◌, ◌≡◌, refl, sym, ap, ◌∙◌, List, [], ◌∷◌, ◌++◌, arith, leb-true, length}
 use Rattle.text_reader.specs.Lines.{Line}
-use Rattle.text_reader.specs.Reading.{over}
+use Rattle.base_laws.specs.Indexed.{over}
 use Rattle.text_writer.specs.Records.{record_text, record_texts}
 use Rattle.base_laws.specs.Test.{within}
 use Rattle.model.specs.Network.{max_links, max_signals, max_trams, link_count, signal_count, movement_count, step_count, tram_count}

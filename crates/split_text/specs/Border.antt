@@ -1,4 +1,4 @@
--- The numbers of border movements added up at each link, by the program's tables.
+-- Inner: the numbers of border movements added up at each link, by the program's tables.
 use Rattle.std.specs.Prelude.{ℕ, suc, ◌+◌, ◌-◌, ◌≡◌, Bool, if◌then◌else◌, List, ◌==◌, slice_index, set}
 use Rattle.base_laws.specs.Test.{◌and◌}
 use Rattle.base_laws.specs.Sum.{sum, only}

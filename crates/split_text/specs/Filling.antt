@@ -1,6 +1,6 @@
--- Numbers put into a row, one behind another.
+-- Inner: numbers put into a row, one behind another.
 use Rattle.std.specs.Prelude.{ℕ, ◌+◌, ◌≤◌, ◌≡◌, List, ◌++◌, length, slice_index}
-use Rattle.text_reader.specs.Reading.{over}
+use Rattle.base_laws.specs.Indexed.{over}
 use Rattle.model_split.specs.Halves.{in_field}
 use Rattle.split_text.specs.declared.Row.{Row}
 

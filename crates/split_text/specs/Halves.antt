@@ -1,4 +1,4 @@
--- What the writing of a half requires and promises.
+-- Inner: what the writing of a half requires and promises.
 use Rattle.std.specs.Prelude.{ℕ, suc, ◌+◌, ◌*◌, ◌<◌, ◌≡◌, true, ◌⊎◌, List, Option, Some}
 use Rattle.base_search.specs.Checks.{Hold}
 use Rattle.text_reader.specs.Lines.{Line, lines}

@@ -1,4 +1,4 @@
--- The lines of a half by the program's tables, and what the functions that put them require.
+-- Inner: the lines of a half by the program's tables, and what the functions that put them require.
 use Rattle.std.specs.Prelude.{ℕ, ◌+◌, ◌*◌, ◌-◌, ◌≤◌, ◌<◌, ◌≡◌, Bool, not, if◌then◌else◌, List, [], ◌∷◌, ◌==◌, length, slice_index, Option, Some, None}
 use Rattle.text_reader.specs.Lines.{Line}
 use Rattle.base_laws.specs.Indexed.{list}

@@ -1,4 +1,4 @@
--- The step of the timeline in which a travel time ends, by a table that has the time of each
+-- Inner: the step of the timeline in which a travel time ends, by a table that has the time of each
 -- boundary. These definitions are not the model's: proofs/Boundaries.antt shows that they agree
 -- with it if the table holds a network's times.
 use Rattle.std.specs.Prelude.{ℕ, zero, suc, ◌+◌, ◌*◌, ◌-◌, ◌≤◌, ◌<◌, if◌then◌else◌, List, nat_le, length, slice_index}

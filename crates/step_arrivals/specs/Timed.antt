@@ -1,5 +1,5 @@
--- The times of the timeline's boundaries, set one after another while its lines are read, as long
--- as its lengths are valid.
+-- Inner: the times of the timeline's boundaries, set one after another while its lines are read, as
+-- long as its lengths are valid.
 use Rattle.std.specs.Prelude.{ℕ, ◌+◌, ◌*◌, ◌≤◌, ◌<◌, ◌≡◌, Bool, true, List, nat_le, length, slice_index, set}
 use Rattle.text_reader.specs.Lines.{Line}
 use Rattle.base_laws.specs.Test.{◌and◌, within, every}

@@ -1,5 +1,5 @@
--- The judgement of one step by the program's tables: the thirteen rules in their order, each over
--- rising items.
+-- Inner: the judgement of one step by the program's tables: the thirteen rules in their order, each
+-- over rising items.
 use Rattle.std.specs.Prelude.{ℕ, ◌+◌, ◌*◌, ◌-◌, ◌≡◌, Bool, true, List, [], ◌∷◌, ◌++◌, length, take, drop, map, Ok}
 use Rattle.base_search.specs.Checks as checks
 use Rattle.base_search.specs.Checks.{verdict, table, Verdict}

@@ -1,5 +1,6 @@
--- Rules 15 and 25 to 27 at one step, and rule 16 by proportions, as tests of the program's tables.
--- Links, movements and signals are counted from 0, a link's signal and a movement's links from 1.
+-- Inner: rules 15 and 25 to 27 at one step, and rule 16 by proportions, as tests of the program's
+-- tables. Links, movements and signals are counted from 0, a link's signal and a movement's links
+-- from 1.
 use Rattle.std.specs.Prelude.{◌≡◌, ◌↔◌, Bool, true, not, List, ◌++◌, ℕ, ◌*◌, ◌-◌, ◌<◌, ◌==◌, nat_le, slice_index, drop}
 use Rattle.base_laws.specs.Test.{◌or◌}
 use Rattle.model.specs.Signals.{opens}

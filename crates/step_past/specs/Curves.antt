@@ -1,5 +1,5 @@
--- What entered the links in the past, by the `H` lines of a network text whose forms have passed:
--- no plan has a say in it.
+-- Inner: what entered the links in the past, by the `H` lines of a network text whose forms have
+-- passed: no plan has a say in it.
 use Rattle.std.specs.Prelude.{ℕ, suc, ◌+◌, ◌*◌, ◌-◌, ◌≤◌, ◌<◌, ◌≡◌, ◌^◌, true, List, [], Option, Some, None, length, slice_index, slice_index_or}
 use Rattle.text_reader.specs.Lines.{Line, lines}
 use Rattle.text_reader.specs.Reading.{Starts}

@@ -1,4 +1,4 @@
--- What is known of the tables by which a step is judged.
+-- Inner: what is known of the tables by which a step is judged.
 use Rattle.std.specs.Prelude.{ℕ, suc, ◌+◌, ◌*◌, ◌≤◌, ◌<◌, ◌≡◌, ◌==◌, List, length}
 use Rattle.base_laws.specs.Sum.{sum, only}
 use Rattle.model.specs.declared.Signal.{Signal}

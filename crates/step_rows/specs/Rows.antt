@@ -1,5 +1,5 @@
--- The row after a step, from the row before it and the numbers of the step's `P` line, as the
--- program's tables hold them. Links, movements and signals are counted from 0 here; a movement
+-- Inner: the row after a step, from the row before it and the numbers of the step's `P` line, as
+-- the program's tables hold them. Links, movements and signals are counted from 0 here; a movement
 -- names its links from 1.
 use Rattle.std.specs.Prelude.{◌≡◌, List, [], ◌∷◌, ◌++◌, ℕ, zero, suc, ◌+◌, ◌*◌, ◌-◌, ◌%◌, ◌≤◌, ◌<◌, ◌==◌, ◌^◌, length, slice_index, set, drop}
 use Rattle.text_reader.specs.Lines.{Line}

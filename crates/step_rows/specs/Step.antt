@@ -1,4 +1,4 @@
--- The tables of a step by the texts.
+-- Inner: the tables of a step by the texts.
 use Rattle.std.specs.Prelude.{ℕ, suc, ◌≡◌, List}
 use Rattle.text_reader.specs.Lines.{Line, lines}
 use Rattle.model.specs.Calls.{written}

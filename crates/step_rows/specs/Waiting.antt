@@ -1,5 +1,5 @@
--- The vehicles that wait at the entries, by the program's tables: one number a link, of who waited
--- at the start or came since and was not admitted. While a step is judged, they stand in the
+-- Inner: the vehicles that wait at the entries, by the program's tables: one number a link, of who
+-- waited at the start or came since and was not admitted. While a step is judged, they stand in the
 -- numbers of its `S` line, added to each link's demand.
 use Rattle.std.specs.Prelude.{ℕ, suc, ◌+◌, ◌-◌, ◌≤◌, ◌<◌, ◌≡◌, ◌^◌, List, length, slice_index}
 use Rattle.text_reader.specs.Lines.{Line}

@@ -1,4 +1,4 @@
--- Signals whose clocks can be carried through a step.
+-- Inner: signals whose clocks can be carried through a step.
 use Rattle.std.specs.Prelude.{ℕ, ◌≤◌, ◌<◌, List, slice_index}
 use Rattle.model.specs.declared.Signal.{Signal}
 use Rattle.network_tables.specs.Fields.{signal_at}

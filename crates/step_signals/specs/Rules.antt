@@ -1,5 +1,5 @@
--- Rules 10, 29 and 11 to 14 by the program's tables. A tram asks a phase of a signal, 0 in an
--- ordinary step.
+-- Inner: rules 10, 29 and 11 to 14 by the program's tables. A tram asks a phase of a signal, 0 in
+-- an ordinary step.
 use Rattle.std.specs.Prelude.{ℕ, ◌+◌, ◌≤◌, ◌<◌, ◌≡◌, Bool, true, not, if◌then◌else◌, List, nat_le, ◌==◌, length, slice_index}
 use Rattle.base_laws.specs.Test.{◌and◌, ◌or◌}
 use Rattle.model.specs.declared.Signal.{Signal}

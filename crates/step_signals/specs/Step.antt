@@ -1,5 +1,5 @@
--- All signals through a step, by the program's tables. A tram asks a phase of a signal, 0 in an
--- ordinary step.
+-- Inner: all signals through a step, by the program's tables. A tram asks a phase of a signal, 0 in
+-- an ordinary step.
 use Rattle.std.specs.Prelude.{ℕ, ◌-◌, ◌^◌, ◌≤◌, ◌<◌, ◌≡◌, if◌then◌else◌, List, ◌==◌, length, slice_index}
 use Rattle.text_reader.specs.Lines.{Line}
 use Rattle.model.specs.declared.Signal.{Signal}

@@ -5,7 +5,8 @@
 
 ghost use Rattle.std.specs.Prelude.{◌≡◌, ◌↔◌, true, ◌-◌, ◌^◌, ◌≤◌, length};
 ghost use Rattle.model.specs.Network.{max_signals};
-ghost use Rattle.model.specs.Signals.{phase_of, opens, phase_after, PhaseOrder, begins_cycle, greatest_time, shown_for_after, clock_after, keeps_order, keeps_least_time, keeps_greatest_time, keeps_cycle, after};
+ghost use Rattle.model.specs.Signals.{phase_of, opens, phase_after, begins_cycle, greatest_time, shown_for_after, clock_after, keeps_order, keeps_least_time, keeps_greatest_time, keeps_cycle, after};
+ghost use Rattle.model.specs.Order.{PhaseOrder};
 ghost use Rattle.step_signals.specs.Ready.{Ready, AllReady};
 ghost use Rattle.step_signals.specs.Rules.{signal_rule_number, signal_test, keeps_ordinary_rules, keeps_all, goes_on, SignalRulesKept, SignalTables};
 ghost use Rattle.step_signals.specs.Step.{ShownPhases, HeldMasks, stepped, AdvanceAsked, Advanced};

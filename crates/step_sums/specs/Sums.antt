@@ -1,5 +1,5 @@
--- Rules 16 to 18 at one step, as tests of the program's tables: those of the step, and the rows
--- before and after it. Links and movements are counted from 0, a movement's links from 1.
+-- Inner: rules 16 to 18 at one step, as tests of the program's tables: those of the step, and the
+-- rows before and after it. Links and movements are counted from 0, a movement's links from 1.
 use Rattle.std.specs.Prelude.{◌≡◌, Bool, true, if◌then◌else◌, List, ℕ, ◌+◌, ◌*◌, ◌-◌, ◌≤◌, ◌<◌, nat_le, nat_lt, ◌==◌, length}
 use Rattle.network_tables.specs.declared.Counts.{Counts}
 use Rattle.network_tables.specs.Fields.{row_size, capacity_in, travel_time_in, link_in, share_in, moved_in, entered_in, left_in, entered_at}

@@ -1,5 +1,5 @@
--- The greatest lengths of texts, in bytes, of the header of the C functions. A number that is read
--- may be padded to ten digits; none that is written is padded.
+-- Believed: the greatest lengths of texts, in bytes, of the header of the C functions. A number
+-- that is read may be padded to ten digits; none that is written is padded.
 use Rattle.std.specs.Prelude.{ℕ, ◌≤◌, ◌≡◌, List, length, Ok}
 use Rattle.base_search.specs.Checks.{verdict}
 use Rattle.text_reader.specs.Lines.{Line, lines}

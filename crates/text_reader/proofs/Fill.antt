@@ -2,7 +2,8 @@
 -- values are stored and the next is to be read from the state s. `vals n s` are the values that at
 -- most n steps from s give, and `res n s` is the answer of at most n steps from s.
 use Rattle.base_laws.proofs.Kit.{ℕ, suc, ◌+◌, ◌-◌, ◌≤◌, ◌<◌, ◌≡◌, refl, sym, ◌∙◌, List, [], ◌∷◌, ◌++◌, add-one, sub-zero, arith, length, take, drop, set, take-append-drop, length-set, drop-cons, take-suc-set, drop-set-lt, append_snoc}
-use Rattle.text_reader.specs.Reading.{over, Got}
+use Rattle.text_reader.specs.Reading.{Got}
+use Rattle.base_laws.specs.Indexed.{over}
 
 pub over_none : (old : List ℕ) → over [] old ≡ old
 unfolding over

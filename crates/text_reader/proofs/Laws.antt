@@ -3,7 +3,8 @@ use Rattle.base_laws.proofs.Kit.{ℕ, zero, suc, ◌+◌, ◌-◌, ◌≤◌, �
 use Rattle.base_laws.proofs.Kit.{add-zero, arith, eqb-true, eqb-false, eq-eqb, ne_eqb, leb-true, le-leb, eqb, leb, length, take, drop, get_or, length-drop, drop_of_length-le, List·getD-eq-default, drop-drop, get_or-drop}
 use Rattle.text_reader.specs.Field.{decimal, largest, digits, is_numeral, field_of}
 use Rattle.text_reader.specs.Lines.{Line, split, line_of, lines_of, lines, no_line, is_number, all_numbers, is_record, starts_as, number_of, number}
-use Rattle.text_reader.specs.Reading.{line_at, next_line, leading, leading_as, over, record_at, at_end, Starts, Got}
+use Rattle.text_reader.specs.Reading.{line_at, next_line, leading, leading_as, record_at, at_end, Starts, Got}
+use Rattle.base_laws.specs.Indexed.{over}
 use Rattle.text_reader.proofs.Bytes.{piece, lines_next, lines-some, piece-within}
 use Rattle.text_reader.proofs.Places.{line-ended, next-piece}
 use Rattle.std.specs.Prelude.{Option, Some, None}

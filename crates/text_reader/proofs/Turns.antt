@@ -6,7 +6,8 @@ use Rattle.text_reader.specs.declared.Numbers.{Numbers}
 use Rattle.text_reader.specs.declared.Numbers.TheVariants.{Last, More, Missing}
 use Rattle.text_reader.specs.Field.{digit, largest, field_of}
 use Rattle.text_reader.specs.Lines.{letter_of, no_letter, lines, lines_of, split, is_record, starts_as}
-use Rattle.text_reader.specs.Reading.{number_until, line_at, next_line, leading, leading_as, field_at, located, separator, worth, rest_at, starts_with, tabbed_at, numbers_as, numbers_at, over, record_at, at_end, Got, GotNumbers, GotNumbersAs}
+use Rattle.text_reader.specs.Reading.{number_until, line_at, next_line, leading, leading_as, field_at, located, separator, worth, rest_at, starts_with, tabbed_at, numbers_as, numbers_at, record_at, at_end, Got, GotNumbers, GotNumbersAs}
+use Rattle.base_laws.specs.Indexed.{over}
 use Rattle.base_laws.proofs.Laws.{length_none}
 use Rattle.text_reader.proofs.Bytes.{lines-some}
 use Rattle.text_reader.proofs.Fill.{over_none, Filled, filled_none, filled_more, filled-stop, filled-all}

@@ -1,4 +1,4 @@
--- The number that a field's bytes stand for.
+-- Believed: the number that a field's bytes stand for.
 use Rattle.std.specs.Prelude.{ℕ, ◌+◌, ◌-◌, ◌*◌, Bool, true, if◌then◌else◌, ◌&&◌, ◌^◌, length, nat_le, Option, Some, None}
 use mathlib.Core.List.{List, [], ◌∷◌, foldl}
 

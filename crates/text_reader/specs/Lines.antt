@@ -1,6 +1,6 @@
--- The lines of a text of tab-separated records. The definitions of the checks and the answers of
--- the calls are stated over these lines alone, so that texts with equal lines get equal answers;
--- inner contracts name places too, each tied to a line by `Starts`.
+-- Believed: the lines of a text of tab-separated records. The definitions of the checks and the
+-- answers of the calls are stated over these lines alone, so that texts with equal lines get equal
+-- answers; inner contracts name places too, each tied to a line by `Starts`.
 use Rattle.std.specs.Prelude.{ℕ, List, [], ◌∷◌, map, Bool, true, false, if◌then◌else◌, ◌&&◌, length, take, drop, slice_index_or, nat_le, ◌==◌, Option, Some, None}
 use Rattle.text_reader.specs.Field.{field_of}
 

@@ -1,4 +1,4 @@
--- Texts that differ only in padding: zeros that stand in front of numbers.
+-- Believed: texts that differ only in padding: zeros that stand in front of numbers.
 use Rattle.std.specs.Prelude.{ℕ, ◌≡◌, ◌⊎◌, List, [], ◌∷◌, Bool, true, if◌then◌else◌, ◌&&◌, length, drop, slice_index_or, ◌==◌, nat_le}
 use Rattle.text_reader.specs.Field.{digits}
 use Rattle.text_reader.specs.Lines.{split}

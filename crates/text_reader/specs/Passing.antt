@@ -1,4 +1,5 @@
--- What the way to the numbers of a line that has passed promises: nothing in it is tested again.
+-- Inner: what the way to the numbers of a line that has passed promises: nothing in it is tested
+-- again.
 use Rattle.std.specs.Prelude.{ℕ, ◌+◌, ◌-◌, ◌/◌, ◌≤◌, ◌<◌, ◌≡◌, ◌≢◌, true, List, [], length, drop, slice_index, Some}
 use Rattle.std.specs.Int.Bits.{bit_and}
 use Rattle.base_laws.specs.Sum.{sum}

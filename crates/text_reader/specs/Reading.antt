@@ -1,6 +1,6 @@
--- What the reader's functions promise, by places in a text.
+-- Inner: what the reader's functions promise, by places in a text.
 use Rattle.std.specs.Prelude.{ℕ, zero, suc, ◌+◌, ◌-◌, ◌<◌, ◌≡◌, Bool, if◌then◌else◌, not, ◌&&◌, ◌||◌, length, drop, slice_index, slice_index_or, ◌==◌, nat_le, Option, Some, None}
-use mathlib.Core.List.{List, [], ◌∷◌, ◌++◌, foldl}
+use mathlib.Core.List.{List, [], ◌∷◌, foldl}
 use Rattle.text_reader.specs.declared.Ended.{Ended}
 use Rattle.text_reader.specs.declared.Ended.TheVariants.{ByTab, ByLineFeed, Neither}
 use Rattle.text_reader.specs.declared.Numbers.{Numbers}
@@ -8,6 +8,7 @@ use Rattle.text_reader.specs.declared.Numbers.TheVariants.{Last, More, Missing}
 use Rattle.text_reader.specs.Field.{digits, shift, largest, field_of}
 use Rattle.text_reader.specs.Lines.{split, Line, lines, no_line, is_record, starts_as}
 use Rattle.text_reader.specs.declared.FieldNumber.{FieldNumber}
+use Rattle.base_laws.specs.Indexed.{over}
 
 -- the line that starts at a place
 unfoldable pub line_at : List ℕ → ℕ → Line
@@ -27,10 +28,6 @@ leading (suc n) (None ∷ fs) = []
 -- those of a line that has the letter
 unfoldable pub leading_as : ℕ → ℕ → Line → List ℕ
 leading_as letter n line = if line.letter == letter then leading n line.fields else []
-
--- a list with vs written over its beginning
-unfoldable pub over : List ℕ → List ℕ → List ℕ
-over vs old = vs ++ drop (length vs) old
 
 -- the place of the next line, if the line at this place is a record of the letter and n numbers
 unfoldable pub record_at : ℕ → ℕ → List ℕ → ℕ → Option ℕ

@@ -1,4 +1,4 @@
--- Records as they are written, and the lines that they are.
+-- Believed: records as they are written, and the lines that they are.
 use Rattle.std.specs.Prelude.{ℕ, zero, suc, ◌+◌, ◌/◌, ◌%◌, true, if◌then◌else◌, List, [], ◌∷◌, ◌++◌, map, nat_lt, Some}
 use Rattle.std.specs.List.{flat_map}
 use Rattle.text_reader.specs.Lines.{Line}

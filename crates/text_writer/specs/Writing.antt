@@ -1,4 +1,4 @@
--- What the writer's functions promise of a lent buffer.
+-- Inner: what the writer's functions promise of a lent buffer.
 use Rattle.std.specs.Prelude.{ℕ, ◌+◌, ◌≤◌, ◌≡◌, List, ◌++◌, length, take, drop}
 use Rattle.text_writer.specs.declared.Cursor.{Cursor}
 

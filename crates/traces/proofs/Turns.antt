@@ -1,7 +1,8 @@
 -- One law for each way through the code of a step.
 use Rattle.base_laws.proofs.Kit.{ℕ, ◌+◌, ◌<◌, ◌≡◌, refl, ◌∙◌, ap, List, add-one, arith, length, get_or, set}
 use lib.Ieee.{Float, nan}
-use Rattle.base_laws.specs.Indexed.{list, filled}
+use Rattle.base_laws.specs.Indexed.{list}
+use Rattle.base_laws.specs.Filled.{filled}
 use Rattle.base_laws.proofs.Laws.{filled_none, filled-past, filled_more, filled-all}
 use Rattle.traces.specs.declared.Obstacle.{Obstacle}
 use Rattle.traces.specs.declared.Obstacle.TheVariants.{OpenRoad, LeaderPlace}

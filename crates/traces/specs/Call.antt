@@ -1,4 +1,4 @@
--- The call `step_vehicles`: its refusals, its answer, and the places after it.
+-- Believed: the call `step_vehicles`: its refusals, its answer, and the places after it.
 use Rattle.std.specs.Prelude.{ℕ, Bool, ◌&&◌, not, List, [], ◌∷◌, nat_le, ◌==◌, length, pos, Float, Ok, Err}
 use Rattle.std.specs.List.{list_all}
 use Rattle.std.specs.Float.{binary64}

@@ -1,4 +1,4 @@
--- What a step keeps, a field for each sentence, in the words of the call alone.
+-- Believed: what a step keeps, a field for each sentence, in the words of the call alone.
 use Rattle.std.specs.Prelude.{ℕ, suc, ◌<◌, ◌≡◌, true, List, length, slice_index_or, Float, Ok, Err}
 use Rattle.std.specs.Float.{nan, binary64}
 use Rattle.std.specs.Float.Ieee.{add, sub, lt, le}

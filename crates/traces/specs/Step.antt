@@ -1,6 +1,6 @@
--- A step of vehicles along a street. A value is a 64-bit float: `add binary64` and `sub binary64`
--- are the exact sum and difference, rounded once. Vehicles and lines are counted from 0; the first
--- vehicle leads.
+-- Believed: a step of vehicles along a street. A value is a 64-bit float: `add binary64` and `sub
+-- binary64` are the exact sum and difference, rounded once. Vehicles and lines are counted from 0;
+-- the first vehicle leads.
 use Rattle.std.specs.Prelude.{ℕ, zero, suc, if◌then◌else◌, List, slice_index_or, Float}
 use Rattle.std.specs.List.{fold}
 use Rattle.std.specs.Float.{nan, binary64}

@@ -4,7 +4,7 @@ use Rattle.base_search.specs.declared.Refusal.{Refusal}
 use Rattle.text_reader.specs.Lines.{lines}
 use Rattle.model.specs.declared.LinkState.{LinkState}
 use Rattle.model.specs.Guarantees.{StatePromises}
-use Rattle.plan_link_state.specs.State.{PlanStates}
+use Rattle.plan_link_state.specs.PlanStates.{PlanStates}
 use Rattle.plancheck_c.specs.Results.{link_result, link_answer_of}
 use Rattle.plancheck_c.proofs.Numbers.{link-tells}
 use Rattle.plancheck_c.proofs.Read.{read-as, link-back}

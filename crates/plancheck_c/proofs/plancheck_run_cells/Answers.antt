@@ -2,7 +2,8 @@
 use Rattle.base_laws.proofs.Kit.{◌≡◌, List, ap, ap₂, ◌∙◌}
 use Rattle.text_reader.specs.Lines.{Line}
 use Rattle.text_reader.proofs.Padding.{same_lines}
-use Rattle.cells_call.specs.Call.{run_cells, volumes_in, final_volumes, RunKeeps}
+use Rattle.cells_call.specs.Call.{run_cells, final_volumes, RunKeeps}
+use Rattle.cells_call.specs.Volumes.{volumes_in}
 use Rattle.cells_call.proofs.Guarantees.{run-keeps, volumes-told}
 use Rattle.plancheck_c.specs.declared.CellsResult.{CellsResult}
 use Rattle.plancheck_c.specs.Results.{cells_result, cells_answer_of}

@@ -2,7 +2,7 @@
 use Rattle.base_search.proofs.Laws.{passed_on}
 use Rattle.base_laws.proofs.Kit.{◌∙◌, sym}
 use Rattle.model_split.specs.Splits.{room_of}
-use Rattle.split.specs.Splitting.{buffer_contents}
+use Rattle.split.specs.Writing.{buffer_contents}
 use Rattle.split.proofs.Writing.{too_short, all-written}
 use Rattle.split.proofs.write_halves.Goals as goal
 
