@@ -14,6 +14,8 @@ pub struct Arguments {
     shell: Shell,
 }
 
+// as each command ends
+#[allow(clippy::unnecessary_wraps)]
 pub fn run(arguments: &Arguments, mut out: &mut dyn Write) -> Outcome {
     generate(arguments.shell, &mut Tool::command(), "workbench", &mut out);
     Ok(Ended::Done)
