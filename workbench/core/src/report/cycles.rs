@@ -65,61 +65,31 @@ impl Cycle {
     }
 }
 
-/// The places of a picture.
-struct Places {
+/// The picture of a link that has a signal, counted from 0.
+struct Diagram<'a> {
+    run: &'a Run,
+    link: usize,
+    /// Of the boundaries that passed.
+    times: Vec<u32>,
+    cycles: Vec<Cycle>,
+    /// The width of a column.
     column: f64,
+    /// The longest cycle.
     greatest: f64,
-}
-
-impl Places {
-    fn y(&self, second: f64) -> f64 {
-        HEIGHT - BOTTOM - (HEIGHT - TOP - BOTTOM) * second / self.greatest.max(1.0)
-    }
-
-    #[allow(clippy::cast_precision_loss)]
-    fn x(&self, cycle: usize) -> f64 {
-        LEFT + self.column * cycle as f64
-    }
-
-    /// The thickness of the bar of greens, and how long the mark of a vehicle is.
-    fn bar(&self) -> f64 {
-        (self.column / 4.0).min(12.0)
-    }
-
-    fn mark(&self) -> f64 {
-        (self.column * 0.6).min(60.0)
-    }
 }
 
 /// The picture of a link, counted from 0, that has a signal; nothing where no step passed.
 pub fn picture(run: &Run, link: usize, on_green: &OnGreen) -> String {
-    let Some(signal) = (run.network.links[link].signal as usize).checked_sub(1) else {
+    let signal = (run.network.links[link].signal as usize).checked_sub(1);
+    let Some(diagram) = signal.and_then(|signal| Diagram::new(run, link, signal)) else {
         return String::new();
     };
-    let cycles = cycles(run, signal);
-    let ends = cycles.iter().map(|cycle| cycle.second(f64::from(cycle.to)));
-    #[allow(clippy::cast_precision_loss)]
-    let places = Places {
-        column: (WIDTH - LEFT - RIGHT) / cycles.len().max(1) as f64,
-        greatest: ends.fold(0.0, f64::max),
-    };
-    if cycles.is_empty() {
-        return String::new();
-    }
-    let times = &run.network.times()[..=run.passed];
-    let [came, _] = came_and_left(run, link);
-    let seconds = arrivals(times, &came);
-    let mut drawn = scales(&cycles, &places);
-    for (place, cycle) in cycles.iter().enumerate() {
-        drawn += &greens(run, link, times, cycle, &places, place);
-        drawn += &vehicles(run, link, times, cycle, &places, place, &seconds);
-    }
     let keys = [
         area_key("open", "the signal opens the link"),
         line_key("came-open", "comes on green"),
         line_key("came-shut", "comes on red"),
     ];
-    let number = link + 1;
+    let (number, drawn) = (link + 1, diagram.drawn());
     let picture = format!(
         "<svg viewBox=\"0 0 {WIDTH} {HEIGHT}\" role=\"img\" aria-label=\"When in the cycle vehicles come to the end of link {number}\">\n{drawn}</svg>\n"
     );
@@ -141,100 +111,143 @@ pub fn percent(part: u64, whole: u64) -> Option<u64> {
     (100 * part + whole / 2).checked_div(whole)
 }
 
-/// The seconds of the cycle at the left, and below the columns the seconds at which their cycles begin, as far as there is room.
-fn scales(cycles: &[Cycle], places: &Places) -> String {
-    let mut scales = String::new();
-    #[allow(clippy::cast_possible_truncation, clippy::cast_sign_loss)]
-    let greatest = places.greatest as u64;
-    let (right, bottom) = (WIDTH - RIGHT, HEIGHT - BOTTOM);
-    for second in marks(greatest, 5, SECOND_UNITS) {
-        #[allow(clippy::cast_precision_loss)]
-        let y = places.y(second as f64);
+impl Diagram<'_> {
+    #[allow(clippy::cast_precision_loss)]
+    fn new(run: &Run, link: usize, signal: usize) -> Option<Diagram<'_>> {
+        let cycles = cycles(run, signal);
+        let greatest = cycles
+            .iter()
+            .map(|cycle| cycle.second(cycle.to.into()))
+            .reduce(f64::max)?;
+        Some(Diagram {
+            run,
+            link,
+            times: run.network.times()[..=run.passed].to_vec(),
+            column: (WIDTH - LEFT - RIGHT) / cycles.len() as f64,
+            cycles,
+            greatest,
+        })
+    }
+
+    fn drawn(&self) -> String {
+        let [came, _] = came_and_left(self.run, self.link);
+        let seconds = arrivals(&self.times, &came);
+        let columns = self.cycles.iter().enumerate();
+        let column = |(place, cycle): (usize, &Cycle)| {
+            let x = self.x(place);
+            let own = seconds.iter().copied();
+            let own = own.filter(|&second| f64::from(cycle.from) <= second && second < cycle.to.into());
+            self.greens(cycle, x) + &self.vehicles(cycle, x, own)
+        };
+        self.scales() + &columns.map(column).collect::<String>()
+    }
+
+    /// Where a second of the cycle is.
+    fn y(&self, second: f64) -> f64 {
+        HEIGHT - BOTTOM - (HEIGHT - TOP - BOTTOM) * second / self.greatest.max(1.0)
+    }
+
+    /// Where the column of a cycle begins.
+    #[allow(clippy::cast_precision_loss)]
+    fn x(&self, place: usize) -> f64 {
+        LEFT + self.column * place as f64
+    }
+
+    /// How thick the bar of greens is.
+    fn bar(&self) -> f64 {
+        (self.column / 4.0).min(12.0)
+    }
+
+    /// How long the mark of a vehicle is.
+    fn mark(&self) -> f64 {
+        (self.column * 0.6).min(60.0)
+    }
+
+    fn is_open(&self, step: usize) -> bool {
+        self.run.network.links[self.link].is_open(&self.run.lines[step].masks)
+    }
+
+    /// The seconds of the cycle at the left, and below the columns the seconds at which their cycles begin, as far as there is
+    /// room.
+    #[allow(
+        clippy::cast_possible_truncation,
+        clippy::cast_sign_loss,
+        clippy::cast_precision_loss
+    )]
+    fn scales(&self) -> String {
+        let mut scales = String::new();
+        let (right, bottom) = (WIDTH - RIGHT, HEIGHT - BOTTOM);
+        for second in marks(self.greatest as u64, 5, SECOND_UNITS) {
+            let y = self.y(second as f64);
+            let _ = writeln!(
+                scales,
+                "<line class=\"grid\" x1=\"{LEFT}\" y1=\"{y:.1}\" x2=\"{right}\" y2=\"{y:.1}\"/>"
+            );
+            scales += &text("volume", LEFT - 6.0, y + 4.0, "end", &second.to_string());
+        }
+        let every = (LABEL / self.column).ceil().max(1.0) as usize;
+        for (place, cycle) in self.cycles.iter().enumerate().step_by(every) {
+            let unit = if place == 0 { "from " } else { "" };
+            let words = format!("{unit}{} s", cycle.from);
+            scales += &text("cycle-name", self.x(place), bottom + 16.0, "start", &words);
+        }
         let _ = writeln!(
             scales,
-            "<line class=\"grid\" x1=\"{LEFT}\" y1=\"{y:.1}\" x2=\"{right}\" y2=\"{y:.1}\"/>"
+            "<line class=\"axis\" x1=\"{LEFT}\" y1=\"{bottom}\" x2=\"{right}\" y2=\"{bottom}\"/>"
         );
-        scales += &text("volume", LEFT - 6.0, y + 4.0, "end", &second.to_string());
+        scales
     }
-    #[allow(clippy::cast_possible_truncation, clippy::cast_sign_loss)]
-    let every = (LABEL / places.column).ceil().max(1.0) as usize;
-    for (place, cycle) in cycles.iter().enumerate().step_by(every) {
-        let unit = if place == 0 { "from " } else { "" };
-        let words = format!("{unit}{} s", cycle.from);
-        scales += &text("cycle-name", places.x(place), bottom + 16.0, "start", &words);
-    }
-    let _ = writeln!(
-        scales,
-        "<line class=\"axis\" x1=\"{LEFT}\" y1=\"{bottom}\" x2=\"{right}\" y2=\"{bottom}\"/>"
-    );
-    scales
-}
 
-/// A bar for each step of a cycle: thick where the signal opens the link, thin where it shuts it.
-fn greens(run: &Run, link: usize, times: &[u32], cycle: &Cycle, places: &Places, place: usize) -> String {
-    let mut bars = String::new();
-    let within = |step: &usize| times[*step] >= cycle.from && times[*step] < cycle.to;
-    for step in (0..run.passed).filter(within) {
-        let (class, width) = if run.network.links[link].is_open(&run.lines[step].masks) {
-            ("open", places.bar())
-        } else {
-            ("shut", places.bar() / 4.0)
-        };
-        let [from, to] = [times[step], times[step + 1]].map(|time| places.y(cycle.second(f64::from(time))));
-        let x = places.x(place) + places.bar() - width;
-        let _ = writeln!(
-            bars,
-            "<rect class=\"{class}\" x=\"{x:.1}\" y=\"{to:.1}\" width=\"{width:.1}\" height=\"{:.1}\"/>",
-            from - to
-        );
-    }
-    bars
-}
-
-/// A mark for each vehicle that comes in a cycle, and how many they are where the pointer rests.
-fn vehicles(
-    run: &Run,
-    link: usize,
-    times: &[u32],
-    cycle: &Cycle,
-    places: &Places,
-    place: usize,
-    seconds: &[f64],
-) -> String {
-    let (from, to) = (f64::from(cycle.from), f64::from(cycle.to));
-    let own = seconds.iter().filter(|&&second| from <= second && second < to);
-    let (mut open, mut shut) = ((String::new(), 0), (String::new(), 0));
-    for &second in own {
-        let step = times
-            .partition_point(|&time| f64::from(time) <= second)
-            .clamp(1, run.passed)
-            - 1;
-        let (marks, count) = if run.network.links[link].is_open(&run.lines[step].masks) {
-            &mut open
-        } else {
-            &mut shut
-        };
-        let (x, y) = (places.x(place) + places.bar() + 1.0, places.y(cycle.second(second)));
-        let _ = write!(marks, "M{x:.1} {y:.1}h{:.1}", places.mark());
-        *count += 1;
-    }
-    let mut drawn = String::new();
-    for (class, (marks, _)) in [("came-open", &open), ("came-shut", &shut)] {
-        if !marks.is_empty() {
-            let _ = writeln!(drawn, "<path class=\"{class}\" d=\"{marks}\"/>");
+    /// A bar for each step of a cycle: thick where the signal opens the link, thin where it shuts it.
+    fn greens(&self, cycle: &Cycle, left: f64) -> String {
+        let mut bars = String::new();
+        let within = |step: &usize| (cycle.from..cycle.to).contains(&self.times[*step]);
+        for step in (0..self.run.passed).filter(within) {
+            let (class, width) = if self.is_open(step) {
+                ("open", self.bar())
+            } else {
+                ("shut", self.bar() / 4.0)
+            };
+            let [from, to] = [step, step + 1].map(|boundary| self.y(cycle.second(self.times[boundary].into())));
+            let (x, height) = (left + self.bar() - width, from - to);
+            let _ = writeln!(
+                bars,
+                "<rect class=\"{class}\" x=\"{x:.1}\" y=\"{to:.1}\" width=\"{width:.1}\" height=\"{height:.1}\"/>"
+            );
         }
+        bars
     }
-    let words = format!(
-        "seconds {} to {}: {} vehicles come on green, {} on red",
-        cycle.from, cycle.to, open.1, shut.1
-    );
-    let _ = writeln!(
-        drawn,
-        "<rect class=\"told\" x=\"{:.1}\" y=\"{TOP}\" width=\"{:.1}\" height=\"{:.1}\"><title>{}</title></rect>",
-        places.x(place),
-        places.column,
-        HEIGHT - TOP - BOTTOM,
-        escape(&words)
-    );
-    drawn
+
+    /// A mark for each vehicle that comes in a cycle, and how many they are where the pointer rests.
+    fn vehicles(&self, cycle: &Cycle, left: f64, seconds: impl Iterator<Item = f64>) -> String {
+        let is_open = |&second: &f64| {
+            let behind = self.times.partition_point(|&time| f64::from(time) <= second);
+            self.is_open(behind.clamp(1, self.run.passed) - 1)
+        };
+        let (open, shut): (Vec<f64>, Vec<f64>) = seconds.partition(is_open);
+        let words = format!(
+            "seconds {} to {}: {} vehicles come on green, {} on red",
+            cycle.from,
+            cycle.to,
+            open.len(),
+            shut.len()
+        );
+        let (column, height) = (self.column, HEIGHT - TOP - BOTTOM);
+        self.marks("came-open", cycle, left, &open)
+            + &self.marks("came-shut", cycle, left, &shut)
+            + &format!(
+                "<rect class=\"told\" x=\"{left:.1}\" y=\"{TOP}\" width=\"{column:.1}\" height=\"{height:.1}\"><title>{}</title></rect>\n",
+                escape(&words)
+            )
+    }
+
+    fn marks(&self, class: &str, cycle: &Cycle, left: f64, seconds: &[f64]) -> String {
+        if seconds.is_empty() {
+            return String::new();
+        }
+        let (x, length) = (left + self.bar() + 1.0, self.mark());
+        let mark = |&second: &f64| format!("M{x:.1} {:.1}h{length:.1}", self.y(cycle.second(second)));
+        let marks: String = seconds.iter().map(mark).collect();
+        format!("<path class=\"{class}\" d=\"{marks}\"/>\n")
+    }
 }
