@@ -108,7 +108,7 @@ if __name__ == "__main__":
         sys.exit("usage: arterial.py FOLDER [SCALE [LEFT]]")
     target = Path(sys.argv[1])
     target.mkdir(parents=True, exist_ok=True)
-    given = [float(number) for number in sys.argv[2:]] + [1.0, 0.0][len(sys.argv) - 2 :]
+    scale, left = [float(number) for number in sys.argv[2:]] + [1.0, 0.0][len(sys.argv) - 2 :]
     make_net(target / "net.xml")
-    count = make_routes(target / "net.xml", target / "routes.rou.xml", *given)
+    count = make_routes(target / "net.xml", target / "routes.rou.xml", scale, left)
     print(f"{count} vehicles: {target}/net.xml, {target}/routes.rou.xml")

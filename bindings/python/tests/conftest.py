@@ -11,6 +11,11 @@ ROOT = Path(__file__).resolve().parents[3]
 EXAMPLES = ROOT / "examples"
 
 
+def name_of(folder: Path) -> str:
+    """What a test with a folder is called after."""
+    return folder.name
+
+
 @pytest.fixture(scope="session")
 def stored(tmp_path_factory: pytest.TempPathFactory) -> Path:
     """The folder with the texts of stored cases: a release has it, a clone writes it."""

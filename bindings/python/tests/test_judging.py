@@ -7,7 +7,7 @@ from pathlib import Path
 
 import numpy as np
 import pytest
-from conftest import EXAMPLES
+from conftest import EXAMPLES, name_of
 
 from plancheck import (
     Delays,
@@ -38,7 +38,7 @@ def printed(folder: Path) -> list[list[int]]:
     return [list(map(int, line.split("\t")[1:])) for line in lines]
 
 
-@pytest.mark.parametrize("folder", FOLDERS, ids=lambda folder: folder.name)
+@pytest.mark.parametrize("folder", FOLDERS, ids=name_of)
 def test_a_report_has_what_the_program_prints(folder: Path) -> None:
     report = check(folder, folder)
     totals, *rows = printed(folder)
@@ -65,7 +65,7 @@ def test_states_are_those_of_the_corridor(corridor: Path) -> None:
     assert report.outside.tolist() == [[0, 0]] * 5
 
 
-@pytest.mark.parametrize("folder", FOLDERS, ids=lambda folder: folder.name)
+@pytest.mark.parametrize("folder", FOLDERS, ids=name_of)
 def test_the_travel_time_is_the_area_under_the_arrays(folder: Path) -> None:
     """By the definition in the header, from the arrays alone."""
     report = check(folder, folder)

@@ -5,18 +5,19 @@ from __future__ import annotations
 import pickle
 import re
 from pathlib import Path
+from typing import Any
 
 import numpy as np
 import pytest
 from conftest import EXAMPLES, ROOT
 from stored import Case, cases_of
 
-from plancheck import Network, Plan, Refused, calls, check
+from plancheck import Network, Plan, Refused, Text, calls, check
 
 
-def refusal_of(network: object, plan: object = "") -> Refused:
+def refusal_of(network: Text, plan: Text = "") -> Refused:
     with pytest.raises(Refused) as refusal:
-        check(network, plan)  # type: ignore[arg-type]
+        check(network, plan)
     return refusal.value
 
 
@@ -146,7 +147,8 @@ def test_every_stored_refusal_of_a_line_has_fields(stored: Path) -> None:
 def test_lent_arrays_that_do_not_fit_are_errors(corridor: Path) -> None:
     network, plan = ((corridor / f"{name}.tsv").read_bytes() for name in ("network", "plan"))
     ledger = np.zeros(20, dtype=np.uint32)
-    for wrong in (ledger.astype(np.int64), ledger[::2], ledger.reshape(4, 5)):
+    wrongs: list[Any] = [ledger.astype(np.int64), ledger[::2], ledger.reshape(4, 5)]
+    for wrong in wrongs:
         with pytest.raises(TypeError):
             calls.check_plan(network, plan, wrong)
     with pytest.raises(TypeError):

@@ -53,8 +53,9 @@ def ask_apart(case: Case, network: bytes, plan: bytes) -> list[int | str]:
         case.ledgers[0][: len(run.volumes)] = run.volumes
         return ["ran", len(run.volumes), run.flow_in, run.flow_out]
     assert case.call == "step_vehicles"
-    values = [case.values[word] for word in ("places", "advances", "red_lines")]
-    calls.step_vehicles(*values, case.values["spacing"][0])
+    words = ("places", "advances", "red_lines")
+    places, advances, red_lines = (case.values[word] for word in words)
+    calls.step_vehicles(places, advances, red_lines, case.values["spacing"][0])
     return ["accepted"]
 
 

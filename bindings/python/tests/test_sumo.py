@@ -9,6 +9,7 @@ import sys
 from collections import Counter
 from dataclasses import fields, replace
 from pathlib import Path
+from typing import Any
 
 import numpy as np
 import pytest
@@ -47,9 +48,9 @@ def made(tmp_path_factory: pytest.TempPathFactory) -> Path:
     return folder
 
 
-def map_of(folder: Path, **decisions: object) -> Map:
+def map_of(folder: Path, **decisions: Any) -> Map:
     demand = Demand.of_routes(folder / "routes.rou.xml")
-    return Map(folder / "net.xml", demand, replace(Decisions(), **decisions))  # type: ignore[arg-type]
+    return Map(folder / "net.xml", demand, replace(Decisions(), **decisions))
 
 
 # Demand and shares.
@@ -376,10 +377,10 @@ def placed(network: Network) -> list[int]:
     return [(link.standing + more) // 1000 for link, more in zip(network.links, entered)]
 
 
-def on_links(connection: object, mapping: Map) -> list[int]:
+def on_links(connection: Any, mapping: Map) -> list[int]:
     """The vehicles on each link in SUMO; who crosses a junction is on the one behind it."""
     found: Counter[int] = Counter()
-    vehicles = connection.vehicle  # type: ignore[attr-defined]
+    vehicles = connection.vehicle
     for name in vehicles.getIDList():
         place = vehicles.getRouteIndex(name) + vehicles.getRoadID(name).startswith(":")
         found[mapping.link_of(vehicles.getRoute(name)[place])] += 1
@@ -438,10 +439,10 @@ def test_a_foreign_net_without_left_turns_is_taken(name: str) -> None:
     ],
 )  # fmt: skip
 def test_a_foreign_net_is_refused_with_a_reason(
-    name: str, decisions: dict[str, object], words: str
+    name: str, decisions: dict[str, Any], words: str
 ) -> None:
     path = NETS / f"{name}.net.xml"
-    asked = replace(Decisions(step=3), **decisions)  # type: ignore[arg-type]
+    asked = replace(Decisions(step=3), **decisions)
     with pytest.raises(SumoError) as error:
         Map(path, everywhere(path, "slr"), asked)
     assert words in str(error.value)

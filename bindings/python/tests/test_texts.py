@@ -2,11 +2,12 @@
 
 from __future__ import annotations
 
+from collections.abc import Callable
 from pathlib import Path
 
 import numpy as np
 import pytest
-from conftest import EXAMPLES
+from conftest import EXAMPLES, name_of
 from stored import cases_of
 
 from plancheck import (
@@ -19,6 +20,7 @@ from plancheck import (
     Sheet,
     Signal,
     Step,
+    Text,
     Tram,
     calls,
     check,
@@ -30,7 +32,7 @@ from plancheck import (
 FOLDERS = [EXAMPLES / name for name in ("corridor", "avenue", "carry", "split", "wave")]
 
 
-@pytest.mark.parametrize("folder", FOLDERS, ids=lambda folder: folder.name)
+@pytest.mark.parametrize("folder", FOLDERS, ids=name_of)
 def test_examples_are_written_as_they_were_read(folder: Path) -> None:
     network, plan = Network.read(folder), Plan.read(folder, folder)
     assert network.text().encode() == (folder / "network.tsv").read_bytes()
@@ -75,8 +77,18 @@ def test_what_is_read_stands_in_its_field() -> None:
 
 def test_a_text_may_be_str_bytes_path_or_object(corridor: Path) -> None:
     path = corridor / "network.tsv"
-    kinds = [path.read_text(), path.read_bytes(), path, corridor, Network.read(corridor)]
-    plans = [corridor, (corridor / "plan.tsv").read_text(), Plan.read(corridor, corridor)]
+    kinds: list[Text] = [
+        path.read_text(),
+        path.read_bytes(),
+        path,
+        corridor,
+        Network.read(corridor),
+    ]
+    plans: list[Text] = [
+        corridor,
+        (corridor / "plan.tsv").read_text(),
+        Plan.read(corridor, corridor),
+    ]
     totals = {check(network, plan).totals for network in kinds for plan in plans}
     assert totals == {calls.Totals(5000, 5000, 0, 240000)}
 
@@ -106,7 +118,9 @@ def test_an_empty_plan_has_no_rows_and_means_hold(corridor: Path) -> None:
         (lambda text: "\n", 1),
     ],
 )  # fmt: skip
-def test_a_malformed_plan_is_refused_at_its_line(corridor: Path, change, line: int) -> None:  # type: ignore[no-untyped-def]
+def test_a_malformed_plan_is_refused_at_its_line(
+    corridor: Path, change: Callable[[str], str], line: int
+) -> None:
     text = change((corridor / "plan.tsv").read_text())
     with pytest.raises(Refused) as refusal:
         Plan.read(text, corridor)
@@ -118,7 +132,7 @@ def test_a_malformed_plan_is_refused_at_its_line(corridor: Path, change, line: i
 
 def test_volumes_that_are_no_whole_numbers_are_an_error(corridor: Path) -> None:
     plan = Plan.read(corridor, corridor)
-    plan.admitted = plan.admitted + 0.5
+    plan.admitted = plan.admitted + 0.5  # type: ignore[assignment]
     with pytest.raises(TypeError):
         plan.text()
 
