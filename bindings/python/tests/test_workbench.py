@@ -2,6 +2,8 @@
 
 from __future__ import annotations
 
+import csv
+import subprocess
 from pathlib import Path
 
 import pytest
@@ -47,6 +49,22 @@ def test_phases_that_break_a_rule_are_refused(corridor: Path) -> None:
     with pytest.raises(Refused) as of_sheet:
         flows(corridor, Sheet([[9, 20]], [0]))
     assert of_sheet.value.number == 33
+
+
+@needs_workbench
+@pytest.mark.parametrize("name", ["avenue", "carry", "corridor"])
+def test_delays_are_those_of_the_workbench(name: str) -> None:
+    """Two programs over the same curves."""
+    folder = EXAMPLES / name
+    tool = workbench.find()
+    assert tool is not None
+    told = subprocess.run([tool, "links", folder], capture_output=True, text=True, check=True)
+    rows = list(csv.DictReader(told.stdout.splitlines()))
+    report = check(folder, folder)
+    for delays, kind in ((report.delays, "delay"), (report.delays_outside, "wait")):
+        for column in ("mean", "median", "third_quartile", "greatest"):
+            due = [float(row[f"{column}_{kind}"] or "nan") for row in rows]
+            assert getattr(delays, column) == pytest.approx(due, abs=0.001, nan_ok=True)
 
 
 @needs_workbench
