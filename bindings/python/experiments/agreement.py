@@ -84,44 +84,61 @@ def backwards(programs: Programs) -> Programs:
     }
 
 
+def mappings(
+    plain: Decisions, lost_time: float
+) -> dict[str, tuple[Decisions, Callable[[Programs], Programs]]]:
+    """The decisions by which a net is mapped, and how its programs are read."""
+    right = replace(plain, lost_time=lost_time)
+    found: dict[str, tuple[Decisions, Callable[[Programs], Programs]]] = {PLAIN: (plain, dict)}
+    for lost in (2.0, 6.0, 8.0):
+        found[f"length / speed + {lost:g} s"] = replace(plain, lost_time=lost), dict
+    found[CALIBRATED] = right, dict
+    found["calibrated, yellow as green"] = replace(right, yellow_opens=True), dict
+    found["calibrated, offsets the other way"] = right, backwards
+    if plain.permissive is not None:
+        found["calibrated, giving way halves the flow"] = replace(right, permissive=0.5), dict
+    return found
+
+
+def judged_times(mapping: Map, programs: list[Programs], workers: int) -> Times:
+    """The travel time of each program by the check."""
+
+    def time_of(given: Programs) -> float:
+        return check(mapping.network(given), mapping.plan(given)).travel_time
+
+    with ThreadPoolExecutor(workers) as pool:
+        return np.array(list(pool.map(time_of, programs)))
+
+
+def simulated_times(
+    mapping: Map, folder: Path, programs: list[Programs], seeds: int, workers: int
+) -> Times:
+    """The travel time of each program in SUMO, with every seed."""
+    net, routes = folder / "net.xml", folder / "routes.rou.xml"
+    seconds = mapping.decisions.steps * mapping.decisions.step
+
+    def times_of(place: int) -> list[float]:
+        path = folder / f"programs-{place}.add.xml"
+        mapping.write(mapping.phases(programs[place]), path)
+        return [travel_time(net, routes, path, seconds, seed) for seed in range(1, seeds + 1)]
+
+    with ThreadPoolExecutor(workers) as pool:
+        return np.array(list(pool.map(times_of, range(len(programs)))))
+
+
 def run_case(case: Case, folder: Path, count: int, seeds: int, workers: int = 2) -> Trial:
     """Makes net, vehicles and programs, runs SUMO with every seed, and judges by each mapping."""
-    net, routes = folder / "net.xml", folder / "routes.rou.xml"
+    net, routes, own = (folder / name for name in ("net.xml", "routes.rou.xml", "own.add.xml"))
     make_net(net)
     vehicles = make_routes(net, routes, case.scale, case.left)
     given_way = 1.0 if case.left else None
     plain = Map(net, Demand.of_routes(routes), Decisions(permissive=given_way))
-    seconds = plain.decisions.steps * plain.decisions.step
-    own = folder / "own.add.xml"
     plain.write(plain.phases(), own)
     lost_time = calibrated(plain, net, routes, own)
     programs = make_programs(plain.programs, count, 3, case.splits)
-
-    def simulate(place: int) -> list[float]:
-        path = folder / f"programs-{place}.add.xml"
-        plain.write(plain.phases(programs[place]), path)
-        return [travel_time(net, routes, path, seconds, seed) for seed in range(1, seeds + 1)]
-
-    with ThreadPoolExecutor(workers) as pool:
-        simulated = np.array(list(pool.map(simulate, range(count))))
+    simulated = simulated_times(plain, folder, programs, seeds, workers)
     trial = Trial(case, vehicles, lost_time, simulated)
-    calibration = replace(plain.decisions, lost_time=lost_time)
-
-    def judge(name: str, decisions: Decisions, change: Callable[[Programs], Programs]) -> None:
+    for name, (decisions, change) in mappings(plain.decisions, lost_time).items():
         mapping = Map(net, plain.demand, decisions)
-
-        def time_of(given: Programs) -> float:
-            return check(mapping.network(change(given)), mapping.plan(change(given))).travel_time
-
-        with ThreadPoolExecutor(workers) as pool:
-            trial.judged[name] = np.array(list(pool.map(time_of, programs)))
-
-    judge(PLAIN, plain.decisions, dict)
-    for lost in (2.0, 6.0, 8.0):
-        judge(f"length / speed + {lost:g} s", replace(calibration, lost_time=lost), dict)
-    judge(CALIBRATED, calibration, dict)
-    judge("calibrated, yellow as green", replace(calibration, yellow_opens=True), dict)
-    judge("calibrated, offsets the other way", calibration, backwards)
-    if case.left:
-        judge("calibrated, giving way halves the flow", replace(calibration, permissive=0.5), dict)
+        trial.judged[name] = judged_times(mapping, list(map(change, programs)), workers)
     return trial

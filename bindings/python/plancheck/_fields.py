@@ -7,6 +7,7 @@ from collections.abc import Callable, Sequence
 from typing import NamedTuple
 
 from ._texts import lines_of
+from .calls import Counts
 from .refusals import Field, Refused
 
 _GREATEST = 2**32 - 1
@@ -44,12 +45,8 @@ class _Line(NamedTuple):
 class _Parts(NamedTuple):
     """A network's lines by their letters, as far as their form is good."""
 
-    links: int
-    signals: int
-    movements: int
-    steps: int
-    trams: int
-    past: int
+    counts: Counts
+    """As its N line says; not judged."""
     lines: list[_Line]
 
     def of(self, letter: str) -> list[list[int]]:
@@ -111,8 +108,7 @@ def _parts(network: bytes) -> _Parts | None:
         lines.append(_Line(line[0], numbers))
     if not lines or lines[0].letter != "N" or len(lines[0].numbers) != len(_COUNTS):
         return None
-    links, signals, movements, steps, trams, past = lines[0].numbers
-    return _Parts(links, signals, movements, steps, trams, past, lines)
+    return _Parts(Counts(*lines[0].numbers), lines)
 
 
 def _of_form(line: list[str], letter: str, due: int) -> list[int]:
@@ -131,10 +127,10 @@ def _of_form(line: list[str], letter: str, due: int) -> list[int]:
 
 def _plan_names(parts: _Parts) -> list[str]:
     names = ["letter"]
-    names += [f"mask of signal {signal}" for signal in range(1, parts.signals + 1)]
-    names += [f"admitted on link {link}" for link in range(1, parts.links + 1)]
-    names += [f"let out of link {link}" for link in range(1, parts.links + 1)]
-    names += [f"movement {movement}" for movement in range(1, parts.movements + 1)]
+    names += [f"mask of signal {signal}" for signal in range(1, parts.counts.signals + 1)]
+    names += [f"admitted on link {link}" for link in range(1, parts.counts.links + 1)]
+    names += [f"let out of link {link}" for link in range(1, parts.counts.links + 1)]
+    names += [f"movement {movement}" for movement in range(1, parts.counts.movements + 1)]
     return names
 
 
@@ -143,15 +139,15 @@ def _mask(refusal: Refused, parts: _Parts) -> list[int]:
 
 
 def _admitted(refusal: Refused, parts: _Parts) -> list[int]:
-    return [parts.signals + refusal.item]
+    return [parts.counts.signals + refusal.item]
 
 
 def _let_out(refusal: Refused, parts: _Parts) -> list[int]:
-    return [parts.signals + parts.links + refusal.item]
+    return [parts.counts.signals + parts.counts.links + refusal.item]
 
 
 def _moved(refusal: Refused, parts: _Parts) -> list[int]:
-    return [parts.signals + 2 * parts.links + refusal.item]
+    return [parts.counts.signals + 2 * parts.counts.links + refusal.item]
 
 
 def _past_red(refusal: Refused, parts: _Parts) -> list[int]:
@@ -160,7 +156,7 @@ def _past_red(refusal: Refused, parts: _Parts) -> list[int]:
 
 
 def _all_moved(refusal: Refused, parts: _Parts, end: int) -> list[int]:
-    before = parts.signals + 2 * parts.links
+    before = parts.counts.signals + 2 * parts.counts.links
     own = enumerate(parts.of("M"), 1)
     return [before + place for place, numbers in own if numbers[end] == refusal.item]
 
@@ -221,9 +217,9 @@ def _counts(numbers: list[int], parts: _Parts, refusal: Refused) -> set[int]:
 
 def _tram(numbers: list[int], parts: _Parts, refusal: Refused) -> set[int]:
     signal, _, first, last = numbers
-    wrong = {1} if _outside(signal, 1, parts.signals) else set()
-    wrong |= {3} if _outside(first, 1, parts.steps) else set()
-    wrong |= {4} if _outside(last, 1, parts.steps) else set()
+    wrong = {1} if _outside(signal, 1, parts.counts.signals) else set()
+    wrong |= {3} if _outside(first, 1, parts.counts.steps) else set()
+    wrong |= {4} if _outside(last, 1, parts.counts.steps) else set()
     wrong |= {3, 4} if first > last else set()
     if wrong:
         return wrong
@@ -256,7 +252,7 @@ def _link(numbers: list[int], parts: _Parts, refusal: Refused) -> set[int]:
     wrong |= {2} if _outside(travel_time, 1, _LONGEST) else set()
     wrong |= {3} if exit_rate > 10_000 else set()
     wrong |= {1, 6} if standing > capacity else set()
-    if signal > parts.signals:
+    if signal > parts.counts.signals:
         return wrong | {4}
     phases = parts.of("G")[signal - 1][2] if signal else 0
     fits = 0 < mask < 1 << phases if signal else mask == 0
@@ -265,8 +261,8 @@ def _link(numbers: list[int], parts: _Parts, refusal: Refused) -> set[int]:
 
 def _movement(numbers: list[int], parts: _Parts, refusal: Refused) -> set[int]:
     origin, destination, rate, share = numbers
-    wrong = {1} if _outside(origin, 1, parts.links) else set()
-    wrong |= {2} if _outside(destination, 1, parts.links) or origin == destination else set()
+    wrong = {1} if _outside(origin, 1, parts.counts.links) else set()
+    wrong |= {2} if _outside(destination, 1, parts.counts.links) or origin == destination else set()
     wrong |= {3} if _outside(rate, 1, 10_000) else set()
     wrong |= {4} if _outside(share, 1, 1000) else set()
     if wrong:

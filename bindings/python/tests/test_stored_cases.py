@@ -65,6 +65,7 @@ def answer_of(case: Case) -> list[str]:
     except Refused as refusal:
         if case.call == "run_cells":
             case.ledgers = [np.zeros(calls.MAX_CELLS, dtype=np.uint32)]
+        assert str(refusal).count(refusal.words.short) == 1
         told = ["refused", refusal.number, refusal.line, refusal.item, refusal.plan]
     return list(map(str, told))
 
