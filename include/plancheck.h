@@ -110,25 +110,26 @@
  * Cortex-M0 at 48 MHz whose memory never waits, by estimate, of the library and of the narrowed one. No proof says that
  * no input takes more.
  *     call                            x86-64   Cortex-M0    narrowed
- *     plancheck_check_network      1,006,370       64 ms       42 ms
- *     plancheck_network_counts     1,006,377       64 ms       42 ms
- *     plancheck_check_plan         6,551,549      519 ms      399 ms
- *     plancheck_link_state         1,128,562       92 ms       68 ms
- *     plancheck_carry_on           7,949,292      693 ms      515 ms
- *     plancheck_check_sheet        6,842,931      519 ms      399 ms
+ *     plancheck_check_network        929,074       62 ms       38 ms
+ *     plancheck_network_counts       929,081       62 ms       38 ms
+ *     plancheck_check_plan         3,383,802      311 ms      243 ms
+ *     plancheck_link_state           987,581       73 ms       47 ms
+ *     plancheck_carry_on           4,002,038      410 ms      308 ms
+ *     plancheck_check_sheet        3,782,345      315 ms      244 ms
  *
  * MEMORY
- * In bytes. The stack is that of x86-64, as painted (docs/MEASUREMENTS.md).
+ * In bytes. The stack is that of x86-64, as painted, the greatest of all inputs that were measured or that a search found
+ * (docs/MEASUREMENTS.md).
  *     call                          stack     lent, beside what it reads
  *     plancheck_check_network        5,536    nothing
  *     plancheck_network_counts       5,584    nothing
- *     plancheck_check_plan           6,592    the ledger: 4 * PLANCHECK_LEDGER_LEN(L, K), 23,232 at most
+ *     plancheck_check_plan           6,568    the ledger: 4 * PLANCHECK_LEDGER_LEN(L, K), 23,232 at most
  *     plancheck_link_state           5,568    nothing
- *     plancheck_carry_on             6,944    the ledger: 4 * PLANCHECK_LEDGER_LEN(L, b); the buffer for the text
+ *     plancheck_carry_on             6,920    the ledger: 4 * PLANCHECK_LEDGER_LEN(L, b); the buffer for the text
  *     plancheck_plan_from_listing   65,552    the buffer: PLANCHECK_WRITTEN_PLAN_MAX, 151,920, at most
- *     plancheck_compare_plans        8,144    two ledgers: each 4 * PLANCHECK_LEDGER_LEN(L, K), 23,232 at most
- *     plancheck_check_sheet          7,408    the ledger: 4 * PLANCHECK_LEDGER_LEN(L, K), 23,232 at most
- *     plancheck_plan_from_sheet      9,952    the buffer: 30,960 at most
+ *     plancheck_compare_plans        8,120    two ledgers: each 4 * PLANCHECK_LEDGER_LEN(L, K), 23,232 at most
+ *     plancheck_check_sheet          7,624    the ledger: 4 * PLANCHECK_LEDGER_LEN(L, K), 23,232 at most
+ *     plancheck_plan_from_sheet      7,040    the buffer: 30,960 at most
  *     plancheck_split                7,832    four buffers: each half at most the greatest network and plan text
  *     plancheck_run_cells            2,192    nothing
  *     plancheck_step_vehicles           40    nothing: the places are changed where they stand
@@ -136,11 +137,11 @@
  * On a box, as painted, and the time of plancheck_check_plan at 48 MHz for a plan of 120 steps on 24 links. The time is an
  * estimate: instructions, at the 1.5 cycles that one takes on a Cortex-M0 without wait states (docs/MEASUREMENTS.md).
  *     library                     network  counts   plan  sheet  state  carry_on   time
- *     Cortex-M0                     5,668   5,692  6,568  7,568  5,780     6,864  98 ms
- *     Cortex-M0, narrow             5,428   5,452  6,336  7,320  5,516     6,632  57 ms
- *     Cortex-M4                     5,592   5,544  6,364  7,340  5,612     6,672  63 ms
- *     Cortex-M33                    5,592   5,540  6,368  7,352  5,620     6,672  63 ms
- *     RISC-V of 32 bits             5,828   5,924  6,764  7,628  5,888     6,924  95 ms
+ *     Cortex-M0                     5,668   5,692  6,916  7,916  5,788     7,212  88 ms
+ *     Cortex-M0, narrow             5,420   5,444  6,560  7,544  5,508     6,856  51 ms
+ *     Cortex-M4                     5,592   5,544  6,552  7,528  5,628     6,860  59 ms
+ *     Cortex-M33                    5,592   5,540  6,556  7,540  5,636     6,860  59 ms
+ *     RISC-V of 32 bits             5,796   5,892  6,868  7,732  5,872     7,028  90 ms
  * plancheck_plan_from_listing is for an engineer's machine, not for a box. The texts of a box are at most
  * PLANCHECK_NETWORK_TEXT_MAX and PLANCHECK_PLAN_TEXT_MAX.
  *
