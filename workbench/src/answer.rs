@@ -32,9 +32,10 @@ pub struct Named<'a> {
     pub plan: Option<String>,
 }
 
+/// What the library says of a plan, or why it was not asked.
 #[derive(Serialize)]
 #[serde(tag = "answer", rename_all = "lowercase")]
-enum Verdict {
+pub enum Verdict {
     Accepted {
         totals: TotalNumbers,
         #[serde(skip_serializing_if = "Option::is_none")]
@@ -51,7 +52,7 @@ enum Verdict {
 
 /// Volumes in thousandths of a vehicle, the doubled time in thousandths of a vehicle times seconds.
 #[derive(Serialize)]
-struct TotalNumbers {
+pub struct TotalNumbers {
     admitted: u64,
     let_out: u64,
     inside: u64,
@@ -60,13 +61,13 @@ struct TotalNumbers {
 
 /// Names that a refusal does not have are null.
 #[derive(Serialize)]
-struct RefusalNumbers {
-    number: u32,
+pub struct RefusalNumbers {
+    pub number: u32,
     line: u32,
     item: u32,
     text: Option<String>,
     item_kind: Option<String>,
-    words: String,
+    pub words: String,
 }
 
 impl<'a> Answer<'a> {
@@ -115,6 +116,14 @@ impl<'a> Answer<'a> {
             verdict,
             version: version(),
         }
+    }
+
+    pub fn named(&self) -> &Named<'a> {
+        &self.named
+    }
+
+    pub fn verdict(&self) -> &Verdict {
+        &self.verdict
     }
 
     pub fn json(&self) -> String {

@@ -4,6 +4,7 @@ mod answer;
 mod command;
 mod commands;
 mod files;
+mod junit;
 mod link_rows;
 mod table;
 

@@ -3,6 +3,7 @@
 use crate::answer::{Answer, Named};
 use crate::command::{Ended, Outcome, Problem};
 use crate::files::{network_at, read_file, read_network, take_input, INPUT, NETWORK, PLAN};
+use crate::junit::{Case, Report};
 use clap::Args;
 use plancheck::{check_plan, MAX_LEDGER_LEN};
 use serde::{Deserialize, Deserializer};
@@ -21,7 +22,8 @@ use std::thread::{self, JoinHandle};
 #[derive(Args)]
 #[command(after_help = "Examples:
   ls made/plan*.tsv | workbench batch --network made > answers.jsonl
-  workbench batch --jobs 4 list.txt")]
+  workbench batch --jobs 4 list.txt
+  workbench batch --junit plans.xml list.txt")]
 pub struct Arguments {
     /// The network of all plans, a file or a folder that has it
     #[arg(long)]
@@ -29,6 +31,9 @@ pub struct Arguments {
     /// How many lines are judged at once, 1 to 256
     #[arg(long, value_name = "N", default_value_t = 1, value_parser = clap::value_parser!(u16).range(1..=MAX_JOBS))]
     jobs: u16,
+    /// Write the answers as a JUnit report too: a refused plan has failed, an unread line is an error
+    #[arg(long, value_name = "FILE")]
+    junit: Option<PathBuf>,
     /// The lines [default: standard input]
     list: Option<PathBuf>,
 }
@@ -54,6 +59,7 @@ enum Read {
 /// A line of the output.
 struct Told {
     json: String,
+    case: Option<Case>,
     is_read: bool,
 }
 
@@ -69,18 +75,26 @@ pub fn run(arguments: &Arguments, out: &mut dyn Write) -> Outcome {
     };
     let network = arguments.network.as_deref().map(read_network).transpose()?;
     let network: Option<Arc<[u8]>> = network.map(Arc::from);
-    judge_all(input, network.as_ref(), usize::from(arguments.jobs), out)
+    let report = arguments.junit.as_deref().map(Report::new).transpose()?;
+    judge_all(input, network.as_ref(), usize::from(arguments.jobs), report, out)
 }
 
 /// The lines go to the judges in turn, and their answers come in the same turn, so that they stay in order. Where nobody reads
 /// the answers, writing one fails, and the program ends with the threads that still wait.
-fn judge_all(input: Box<dyn BufRead + Send>, network: Option<&Arc<[u8]>>, jobs: usize, out: &mut dyn Write) -> Outcome {
+fn judge_all(
+    input: Box<dyn BufRead + Send>,
+    network: Option<&Arc<[u8]>>,
+    jobs: usize,
+    mut report: Option<Report>,
+    out: &mut dyn Write,
+) -> Outcome {
+    let has_report = report.is_some();
     let (mut judges, mut answers) = (Vec::new(), Vec::new());
     for _ in 0..jobs {
         let (judge, lines) = sync_channel(WAITING);
         let (answer, told) = sync_channel(WAITING);
         let network = network.cloned();
-        thread::spawn(move || judge_lines(&lines, &answer, network.as_deref()));
+        thread::spawn(move || judge_lines(&lines, &answer, network.as_deref(), has_report));
         judges.push(judge);
         answers.push(told);
     }
@@ -89,12 +103,16 @@ fn judge_all(input: Box<dyn BufRead + Send>, network: Option<&Arc<[u8]>>, jobs: 
     for judge in answers.iter().cycle() {
         let Some(answer) = next_answer(judge, out)? else { break };
         writeln!(out, "{}", answer.json)?;
+        if let (Some(report), Some(case)) = (&mut report, &answer.case) {
+            report.add(case)?;
+        }
         told += 1;
         not_read += u64::from(!answer.is_read);
     }
     if told < lines_read(reader)? {
         return Err(Problem("a judge failed: the answers end before the lines".to_string()));
     }
+    report.map(Report::end).transpose()?;
     if not_read == 0 {
         return Ok(Ended::Done);
     }
@@ -166,17 +184,17 @@ fn next_line(input: &mut dyn BufRead) -> io::Result<Option<Read>> {
     Ok(is_there.then_some(read))
 }
 
-fn judge_lines(lines: &Receiver<Line>, answers: &SyncSender<Told>, network: Option<&[u8]>) {
+fn judge_lines(lines: &Receiver<Line>, answers: &SyncSender<Told>, network: Option<&[u8]>, has_report: bool) {
     let mut ledger = vec![0; MAX_LEDGER_LEN];
     while let Ok(line) = lines.recv() {
-        let told = judge_line(&line, network, &mut ledger);
+        let told = judge_line(&line, network, has_report, &mut ledger);
         if answers.send(told).is_err() {
             break;
         }
     }
 }
 
-fn judge_line(line: &Line, network: Option<&[u8]>, ledger: &mut [u32]) -> Told {
+fn judge_line(line: &Line, network: Option<&[u8]>, has_report: bool, ledger: &mut [u32]) -> Told {
     let mut named = Named {
         line: Some(line.number),
         ..Named::default()
@@ -196,6 +214,7 @@ fn judge_line(line: &Line, network: Option<&[u8]>, ledger: &mut [u32]) -> Told {
     };
     Told {
         json: answer.json(),
+        case: has_report.then(|| Case::new(&answer)),
         is_read,
     }
 }

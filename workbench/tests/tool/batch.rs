@@ -230,6 +230,65 @@ fn answers_come_at_once_and_a_closed_pipe_ends_it() {
     }
 }
 
+/// Its counts stand before its cases, and each text is as XML has it.
+#[test]
+fn a_junit_report_of_all_lines() {
+    let folder = scratch("junit");
+    let report = folder.join("plans.xml").display().to_string();
+    let (network, plan) = (
+        quoted(&format!("{}/network.tsv", example("corridor"))),
+        quoted(&format!("{}/plan.tsv", example("corridor"))),
+    );
+    let early = plan.replace("P\\t1\\t5000\\t0\\t0\\t0\\t0", &EARLY.replace('\t', "\\t"));
+    let lines = [
+        example("corridor"),
+        "no/\u{1}<&>\"folder".to_string(),
+        format!("{{\"network\":{network},\"plan\":{early},\"id\":\"a\\t\\\"b\\\"\"}}"),
+        format!("{{\"network\":{network},\"plan\":{plan},\"id\":[1]}}"),
+        "{".to_string(),
+    ];
+    let said = workbench_with(
+        &["batch", "--jobs", "2", "--junit", &report],
+        lines.join("\n").as_bytes(),
+    );
+    assert_eq!((said.status, said.out.lines().count()), (2, 5), "{}", said.err);
+    let told = fs::read_to_string(&report).unwrap();
+    let elements: Vec<&str> = told.lines().collect();
+    assert_eq!(elements.len(), 8, "{told}");
+    let counts: Vec<&str> = elements[1].split_whitespace().collect();
+    assert_eq!(
+        counts,
+        [
+            "<testsuite",
+            "name=\"plancheck\"",
+            "tests=\"5\"",
+            "failures=\"1\"",
+            "errors=\"2\"",
+            ">"
+        ]
+    );
+    assert!(elements[2].ends_with("/plan.tsv\"/>"), "{told}");
+    assert!(
+        elements[3]
+            .contains(" name=\"no/\u{fffd}&lt;&amp;>&quot;folder/plan.tsv\"><error type=\"unread\" message=\"no/"),
+        "{told}"
+    );
+    assert!(
+        elements[4].contains(" name=\"a&#9;&quot;b&quot;\"><failure type=\"17\" message=\"refused with 17 in step 1 "),
+        "{told}"
+    );
+    assert_eq!(elements[5], "  <testcase classname=\"batch\" name=\"[1]\"/>");
+    assert!(elements[6].contains(" name=\"line 5\"><error "), "{told}");
+    assert_eq!(elements[7], "</testsuite>");
+    let said = workbench_with(&["batch", "--junit", "/nowhere/plans.xml"], b"");
+    assert_eq!(said.status, 2);
+    assert!(
+        said.err.contains("/nowhere/plans.xml was not written: "),
+        "{}",
+        said.err
+    );
+}
+
 /// The command of docs/PIPELINES.md, where GNU parallel is there.
 #[test]
 fn gnu_parallel_hands_out_blocks() {
