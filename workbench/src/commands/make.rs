@@ -46,11 +46,11 @@ pub fn run(arguments: &Arguments, out: &mut dyn Write) -> Outcome {
         arguments.junctions.unwrap_or(junctions),
         arguments.steps.unwrap_or(steps),
     );
-    let (network, mut made) = avenue_with_plan(&mut chance, junctions, steps)?;
-    let folder = &arguments.folder;
-    make_folder(folder)?;
+    let (network, first) = avenue_with_plan(&mut chance, junctions, steps)?;
+    make_folder(&arguments.folder)?;
     let network_text = network.to_string();
-    write_network(&folder.join(NETWORK), network_text.as_bytes())?;
+    write_network(&arguments.folder.join(NETWORK), network_text.as_bytes())?;
+    let made = write_plans(&mut chance, &network, first, arguments)?;
     let counts = [
         counted(network.links.len(), "link"),
         counted(network.signals.len(), "signal"),
@@ -58,30 +58,65 @@ pub fn run(arguments: &Arguments, out: &mut dyn Write) -> Outcome {
         counted(network.steps.len(), "step"),
         counted(network.trams.len(), "tram line"),
     ];
-    writeln!(out, "{}", counts.join(", "))?;
-    let mut name = PLAN.to_string();
-    let mut longest_plan = 0;
-    for number in 1..=arguments.plans {
-        if number > 1 {
-            name = format!("plan-{number}.tsv");
-            made = plan(&mut chance, &network).ok_or_else(no_plan)?;
-        }
-        let texts = Texts {
-            network: network_text.clone().into_bytes(),
-            plan: made.to_string().into_bytes(),
-        };
-        let time = accepted_time(&texts)?;
-        write(&folder.join(&name), &texts.plan)?;
-        longest_plan = longest_plan.max(texts.plan.len());
-        writeln!(out, "{name}: travel time {time} vehicle seconds")?;
-    }
-    if network_text.len() > MAX_CHECK_NETWORK || longest_plan > MAX_CHECK_PLAN {
+    let plans = counted(arguments.plans as usize, "plan");
+    writeln!(out, "{}; {plans}, {}", counts.join(", "), made.times())?;
+    if network_text.len() > MAX_CHECK_NETWORK || made.longest > MAX_CHECK_PLAN {
         eprintln!(
             "workbench: ./check takes networks of at most {MAX_CHECK_NETWORK} bytes and plans of at most {MAX_CHECK_PLAN}, \
              and not all of these; workbench/run check does"
         );
     }
     Ok(Ended::Done)
+}
+
+/// What is told of the plans made: the bytes of the longest, the least and the greatest doubled travel time.
+struct Made {
+    longest: usize,
+    least: u64,
+    greatest: u64,
+}
+
+impl Made {
+    fn times(&self) -> String {
+        let (least, greatest) = (show::vehicle_seconds(self.least), show::vehicle_seconds(self.greatest));
+        match self.least == self.greatest {
+            true => format!("travel time {least} vehicle seconds"),
+            false => format!("travel times {least} to {greatest} vehicle seconds"),
+        }
+    }
+}
+
+/// Writes the first plan, and as many others as are asked for.
+fn write_plans(
+    chance: &mut Chance,
+    network: &NetworkText,
+    first: PlanText,
+    arguments: &Arguments,
+) -> Result<Made, Problem> {
+    let mut name = PLAN.to_string();
+    let mut next = first;
+    let mut texts = Texts {
+        network: network.to_string().into_bytes(),
+        plan: Vec::new(),
+    };
+    let (mut longest, mut least, mut greatest) = (0, u64::MAX, 0);
+    for number in 1..=arguments.plans {
+        if number > 1 {
+            name = format!("plan-{number}.tsv");
+            next = plan(chance, network).ok_or_else(no_plan)?;
+        }
+        texts.plan = next.to_string().into_bytes();
+        let doubled_time = doubled_time(&texts)?;
+        write(&arguments.folder.join(&name), &texts.plan)?;
+        longest = longest.max(texts.plan.len());
+        least = least.min(doubled_time);
+        greatest = greatest.max(doubled_time);
+    }
+    Ok(Made {
+        longest,
+        least,
+        greatest,
+    })
 }
 
 /// Writes the network where there is none, or this one: plans of another would be left without theirs.
@@ -110,10 +145,10 @@ fn no_plan() -> Problem {
     Problem("no plan keeps the limits of the signals that this seed draws: take another".to_string())
 }
 
-/// The travel time of a made plan; that the check refuses one is a fault of this tool.
-fn accepted_time(texts: &Texts) -> Result<String, Problem> {
+/// The doubled travel time of a made plan; that the check refuses one is a fault of this tool.
+fn doubled_time(texts: &Texts) -> Result<u64, Problem> {
     match judge(texts).answer {
-        Ok(totals) => Ok(show::vehicle_seconds(totals.doubled_time)),
+        Ok(totals) => Ok(totals.doubled_time),
         Err(refusal) => Err(Problem(format!("the plan made is {}", words::sentence(&refusal, None)))),
     }
 }

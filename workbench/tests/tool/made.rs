@@ -34,6 +34,23 @@ fn seeds_are_accepted_and_have_traffic() {
     );
 }
 
+/// However many plans there are.
+#[test]
+fn one_line_is_told() {
+    let folder = scratch("made_line");
+    let one = make(45, &folder, &["--junctions", "2", "--steps", "8"]);
+    assert!(
+        one.contains("; 1 plan, travel time ") && one.lines().count() == 1,
+        "{one}"
+    );
+    let many = make(45, &folder, &["--junctions", "2", "--steps", "8", "--plans", "30"]);
+    assert!(
+        many.contains("; 30 plans, travel times ") && many.lines().count() == 1,
+        "{many}"
+    );
+    assert!(folder.join("plan-30.tsv").exists());
+}
+
 fn ends_inside_a_step(line: &str) -> bool {
     let fields: Vec<&str> = line.split('\t').collect();
     fields[0] == "Q" && fields[2].parse::<u32>().unwrap() % 5 != 0
