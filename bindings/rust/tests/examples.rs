@@ -24,6 +24,18 @@ const AVENUE: Example = example!("avenue");
 const CARRY: Example = example!("carry");
 /// A network, and its two halves.
 const SPLIT: [Example; 3] = [example!("split"), example!("split/first"), example!("split/second")];
+/// Small junctions.
+const FITTING: [Example; 9] = [
+    example!("fitting/conflicts"),
+    example!("fitting/edges"),
+    example!("fitting/exits"),
+    example!("fitting/intergreen"),
+    example!("fitting/lanes"),
+    example!("fitting/lost-time"),
+    example!("fitting/offsets"),
+    example!("fitting/rings"),
+    example!("fitting/tenths"),
+];
 
 /// The numbers of a record, without its letter.
 fn numbers(line: &str) -> Vec<u64> {
@@ -65,6 +77,13 @@ fn avenue() {
 #[test]
 fn carry() {
     judge(&CARRY);
+}
+
+#[test]
+fn small_junctions() {
+    for example in &FITTING {
+        judge(example);
+    }
 }
 
 #[test]

@@ -33,6 +33,23 @@ fn filled(folder: &Path, network: &NetworkText, phases: &PlanText) -> Result<Pla
     Ok(PlanText::read(said.out.as_bytes(), &network.counts()).unwrap())
 }
 
+/// The plans of examples/fitting are those of their sheets.
+#[test]
+fn the_sheets_of_small_junctions() {
+    let folders: Vec<_> = fs::read_dir(example("fitting")).unwrap().collect();
+    assert!(folders.len() >= 9);
+    for folder in folders {
+        let path = |name: &str| folder.as_ref().unwrap().path().join(name).display().to_string();
+        let said = workbench(&["flows", &path("network.tsv"), "--sheet", &path("sheet.tsv")]);
+        assert_eq!(
+            (said.status, said.out),
+            (0, fs::read_to_string(path("plan.tsv")).unwrap()),
+            "{}",
+            said.err
+        );
+    }
+}
+
 #[test]
 fn what_the_phases_let_pass_is_accepted() {
     let folder = scratch("flows_accepted");
