@@ -167,9 +167,9 @@
 extern "C" {
 #endif
 
-/* The calls that the archive has: on x86-64 all, on another processor those of a box. With PLANCHECK_BOX defined before,
-   only these are declared on x86-64 too. */
-#if !defined(PLANCHECK_BOX) && !defined(__x86_64__)
+/* The calls that the archive has: on x86-64 and for WebAssembly all, on another processor those of a box. With
+   PLANCHECK_BOX defined before, only these are declared there too. */
+#if !defined(PLANCHECK_BOX) && !defined(__x86_64__) && !defined(__wasm32__)
 #define PLANCHECK_BOX
 #endif
 
