@@ -2,8 +2,11 @@
 //!
 //! `differential COUNT SEED`: whole rounds of inputs made from SEED, until they are COUNT or more. The inputs of round n are those of the seed SEED + n, so that a
 //! difference can be found again by itself: `differential 1 SEED` with the seed that is printed.
+//!
+//! `differential --folders FOLDER..`: the network, plan and sheet of each folder, put to every call of a box, and damaged.
 
 mod compare;
+mod folders;
 // Each of the comparing programs calls a part of the library.
 #[allow(dead_code)]
 #[path = "../../../bindings/rust/src/library.rs"]
@@ -16,6 +19,7 @@ use compare::{compare, Asked, Compared};
 use plancheck_reference::cases::{Answer, Call, Question, Random};
 use std::collections::BTreeMap;
 use std::fmt::Display;
+use std::path::Path;
 use std::process::ExitCode;
 
 /// After so many differences nothing more is learnt.
@@ -41,21 +45,47 @@ struct Counts {
 }
 
 fn main() -> ExitCode {
-    let arguments: Option<Vec<u64>> = std::env::args()
-        .skip(1)
-        .map(|argument| argument.parse().ok())
-        .collect();
-    let Some([count, seed]) = arguments.as_deref() else {
-        eprintln!("differential COUNT SEED");
-        return ExitCode::FAILURE;
+    let words: Vec<String> = std::env::args().skip(1).collect();
+    let numbers: Option<Vec<u64>> = words.iter().map(|word| word.parse().ok()).collect();
+    let counts = match (words.split_first(), numbers.as_deref()) {
+        (Some((option, folders)), _) if option == "--folders" && !folders.is_empty() => {
+            run_folders(folders)
+        }
+        (_, Some([count, seed])) => {
+            let counts = run(*count, *seed);
+            report(&counts, &format!("inputs, {count} or more in whole rounds"));
+            counts
+        }
+        _ => {
+            eprintln!("differential COUNT SEED | --folders FOLDER..");
+            return ExitCode::FAILURE;
+        }
     };
-    let counts = run(*count, *seed);
-    report(&counts, *count);
     if counts.differences == 0 {
         ExitCode::SUCCESS
     } else {
         ExitCode::FAILURE
     }
+}
+
+/// The inputs of each folder, by its place as the seed.
+fn run_folders(folders: &[String]) -> Counts {
+    let mut counts = Counts::default();
+    for (seed, folder) in (1..).zip(folders) {
+        match folders::questions(Path::new(folder), &mut Random::new(seed)) {
+            Ok(questions) => {
+                for (index, question) in questions.iter().enumerate() {
+                    judge(&mut counts, seed, index, question);
+                }
+            }
+            Err(error) => {
+                eprintln!("{folder} was not read: {error}");
+                counts.differences += 1;
+            }
+        }
+    }
+    report(&counts, "inputs");
+    counts
 }
 
 fn run(count: u64, first_seed: u64) -> Counts {
@@ -77,7 +107,9 @@ fn run(count: u64, first_seed: u64) -> Counts {
         if counts.inputs >= shown + count / 10 {
             shown = counts.inputs;
             let differences = counts.differences;
-            eprintln!("{shown} inputs, of {count} or more in whole rounds; {differences} differences");
+            eprintln!(
+                "{shown} inputs, of {count} or more in whole rounds; {differences} differences"
+            );
         }
     }
     counts
@@ -147,7 +179,7 @@ fn tell_place<T: PartialEq + Display>(name: &str, expected: &[T], given: &[T]) {
     }
 }
 
-fn report(counts: &Counts, count: u64) {
+fn report(counts: &Counts, inputs: &str) {
     println!("answer\t{}", CALLS.join("\t"));
     for number in (0..=6).chain(8..=35) {
         let count = |call| counts.answers.get(&(call, number)).copied().unwrap_or(0);
@@ -160,6 +192,6 @@ fn report(counts: &Counts, count: u64) {
         println!("{name}\t{}", columns.join("\t"));
     }
     println!("passed over\t{}", counts.passed_over);
-    println!("inputs, {count} or more in whole rounds\t{}", counts.inputs);
+    println!("{inputs}\t{}", counts.inputs);
     println!("differences\t{}", counts.differences);
 }
