@@ -412,8 +412,7 @@ class Shape:
     """What the search for the greatest work turns: an input of the greatest sizes, whose signals change at every step and
     whose every number is padded to ten digits."""
 
-    past_length: int  # of each past step
-    past: int
+    past: list  # the lengths of the past steps
     lengths: list  # of the plan's steps
     travel_times: list
     trams: bool = False  # two at each signal, one after the other, so that one is in every step
@@ -421,19 +420,34 @@ class Shape:
     long: bool = False  # volumes as long as the limits of a past allow
 
 
+# Two runs of past steps of 1 s, parted by one as long as a step of the plan.
+PARTED = [1] * 51 + [50] + [1] * 51
+
+
+def behind(past, count, length):
+    """Travel times of groups of so many links. In a step of the plan the first of a group passes as many `H` lines of 1 s
+    as the step has seconds, while the others pass one; in the next step these pass as many, together."""
+    return [sum(past) + length * (i // count) + (length - 1) * (i % count > 0) for i in range(24)]
+
+
 # Inputs that a search found, or that led it there. In `solo` each link leaves the past in a step of its own, in `pairs`
-# two do together, in `alternating` every other link is a second behind; in `full` there is no past.
+# two do together, in `alternating` every other link is a second behind; in `fours` and `threes` the first of each group
+# has lines read whole which move the others little; in `full` there is no past.
 FAMILIES = {
-    "solo": Shape(1, 96, [60] * 24, [96 + 60 * i for i in range(24)]),
-    "pairs": Shape(1, 98, [10] * 22, [98 + 10 * (i // 2) for i in range(24)]),
-    "alternating": Shape(1, 118, [59] * 2, [119 + i % 2 for i in range(24)]),
-    "one by one": Shape(1, 91, [60] * 29, [121 + 60 * i for i in range(24)], ended=False),
-    "long past": Shape(1, 100, [60] * 20, [100 + 60 * i for i in range(24)], long=True),
-    "shortest past": Shape(1, 60, [60] * 60, [60 + 60 * i for i in range(24)]),
-    "longest past": Shape(1, 118, [60] * 2, [118 + i for i in range(24)]),
-    "longest past, trams": Shape(1, 118, [60] * 2, [118 + i for i in range(24)], trams=True),
-    "full": Shape(1, 0, [60] * 120, [1 + i % 2 for i in range(24)]),
-    "full, no line feed at the end": Shape(1, 0, [60] * 120, [1 + i % 2 for i in range(24)], ended=False),
+    "solo": Shape([1] * 96, [60] * 24, [96 + 60 * i for i in range(24)]),
+    "pairs": Shape([1] * 98, [10] * 22, [98 + 10 * (i // 2) for i in range(24)]),
+    "alternating": Shape([1] * 118, [59] * 2, [119 + i % 2 for i in range(24)]),
+    "one by one": Shape([1] * 91, [60] * 29, [121 + 60 * i for i in range(24)], ended=False),
+    "fours": Shape(PARTED, [50] * 17, behind(PARTED, 4, 50), trams=True, ended=False),
+    "fours, long": Shape(PARTED, [50] * 17, behind(PARTED, 4, 50), trams=True, long=True),
+    "threes": Shape(PARTED, [50] * 17, behind(PARTED, 3, 50), trams=True, ended=False),
+    "threes, long": Shape(PARTED, [50] * 17, behind(PARTED, 3, 50), trams=True, long=True),
+    "long past": Shape([1] * 100, [60] * 20, [100 + 60 * i for i in range(24)], long=True),
+    "shortest past": Shape([1] * 60, [60] * 60, [60 + 60 * i for i in range(24)]),
+    "longest past": Shape([1] * 118, [60] * 2, [118 + i for i in range(24)]),
+    "longest past, trams": Shape([1] * 118, [60] * 2, [118 + i for i in range(24)], trams=True),
+    "full": Shape([], [60] * 120, [1 + i % 2 for i in range(24)]),
+    "full, no line feed at the end": Shape([], [60] * 120, [1 + i % 2 for i in range(24)], ended=False),
 }
 
 
@@ -449,7 +463,7 @@ def shaped_network(shape):
     links = [Link(2_000_000_000, time, 10_000, 1 + i % 8, 255, standing) for i, time in enumerate(times)]
     movements = [Movement(i, (i + k) % 24, 10_000, 250) for i in range(16) for k in (1, 2, 3, 4)]
     movements.sort(key=lambda movement: (movement.origin, movement.destination))
-    past = [PastStep(shape.past_length, [entered] * 24, [left] * 24) for _ in range(shape.past)]
+    past = [PastStep(length, [entered] * 24, [left] * 24) for length in shape.past]
     steps = [Step(length, [600_000] * 24) for length in shape.lengths]
     network = Network(signals, links, movements, steps, past=past)
     if shape.trams:

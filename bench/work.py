@@ -9,9 +9,9 @@ from collections import Counter
 
 # Instructions of a turn at most, by machine; what a call takes beside its turns stands under `call`.
 WEIGHTS = {
-    "x86": {"read": 13, "passed": 6, "tested": 60, "moved": 60, "written": 26, "call": 6_000},
-    "m0": {"read": 34, "passed": 14, "tested": 160, "moved": 200, "written": 130, "call": 20_000},
-    "narrow": {"read": 26, "passed": 10, "tested": 100, "moved": 140, "written": 100, "call": 12_000},
+    "x86": {"read": 13, "passed": 4, "tested": 60, "moved": 30, "written": 12, "call": 6_000},
+    "m0": {"read": 26, "passed": 11, "tested": 130, "moved": 100, "written": 50, "call": 20_000},
+    "narrow": {"read": 18, "passed": 8, "tested": 90, "moved": 60, "written": 35, "call": 12_000},
 }
 
 

@@ -112,10 +112,10 @@
  *     call                            x86-64   Cortex-M0    narrowed
  *     plancheck_check_network        929,074       62 ms       38 ms
  *     plancheck_network_counts       929,081       62 ms       38 ms
- *     plancheck_check_plan         3,383,802      311 ms      243 ms
+ *     plancheck_check_plan         5,105,333      431 ms      285 ms
  *     plancheck_link_state           987,581       73 ms       47 ms
- *     plancheck_carry_on           4,002,038      410 ms      308 ms
- *     plancheck_check_sheet        3,782,345      315 ms      244 ms
+ *     plancheck_carry_on           6,806,673      624 ms      419 ms
+ *     plancheck_check_sheet        5,170,856      437 ms      288 ms
  *
  * MEMORY
  * In bytes. The stack is that of x86-64, as painted, the greatest of all inputs that were measured or that a search found
