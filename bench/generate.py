@@ -436,7 +436,7 @@ def behind(past, count, length):
 FAMILIES = {
     "solo": Shape([1] * 96, [60] * 24, [96 + 60 * i for i in range(24)]),
     "pairs": Shape([1] * 98, [10] * 22, [98 + 10 * (i // 2) for i in range(24)]),
-    "alternating": Shape([1] * 118, [59] * 2, [119 + i % 2 for i in range(24)]),
+    "alternating": Shape([1] * 118, [59] * 2, [119 + i % 2 for i in range(24)], trams=True, long=True),
     "one by one": Shape([1] * 91, [60] * 29, [121 + 60 * i for i in range(24)], ended=False),
     "fours": Shape(PARTED, [50] * 17, behind(PARTED, 4, 50), trams=True, ended=False),
     "fours, long": Shape(PARTED, [50] * 17, behind(PARTED, 4, 50), trams=True, long=True),
@@ -445,7 +445,7 @@ FAMILIES = {
     "long past": Shape([1] * 100, [60] * 20, [100 + 60 * i for i in range(24)], long=True),
     "shortest past": Shape([1] * 60, [60] * 60, [60 + 60 * i for i in range(24)]),
     "longest past": Shape([1] * 118, [60] * 2, [118 + i for i in range(24)]),
-    "longest past, trams": Shape([1] * 118, [60] * 2, [118 + i for i in range(24)], trams=True),
+    "longest past, trams": Shape([1] * 118, [60] * 2, [118 + i for i in range(24)], trams=True, long=True),
     "full": Shape([], [60] * 120, [1 + i % 2 for i in range(24)]),
     "full, no line feed at the end": Shape([], [60] * 120, [1 + i % 2 for i in range(24)], ended=False),
 }

@@ -113,7 +113,7 @@
  *     plancheck_check_network        929,074       62 ms       38 ms
  *     plancheck_network_counts       929,081       62 ms       38 ms
  *     plancheck_check_plan         5,105,333      431 ms      285 ms
- *     plancheck_link_state           987,581       73 ms       47 ms
+ *     plancheck_link_state           994,770       74 ms       47 ms
  *     plancheck_carry_on           6,806,673      624 ms      419 ms
  *     plancheck_check_sheet        5,170,856      437 ms      288 ms
  *
