@@ -12,6 +12,7 @@ use Rattle.step_signals.specs.declared.SignalRule.TheVariants.{OnePhase}
 use Rattle.step_signals.specs.Rules.{SignalRulesKept}
 use Rattle.step_rows.specs.declared.Step.{Step}
 use Rattle.step_rows.specs.Rows.{next_row, Fits}
+use Rattle.step_rows.specs.Step.{ArrivalTables}
 use Rattle.step_rows.proofs.Lists.{begun-length}
 use Rattle.step_rows.proofs.Next.{next-left-at}
 use Rattle.step_limits.specs.declared.LimitRule.TheVariants.{Offer, ExitRate, MovementRate, OpenLink}
@@ -99,10 +100,12 @@ module _ (step : Step) (previous row : List ℕ) where
     all_pass line = passes-of-hold _ (kept-hold line _ (all-kept rules))
 
   -- the rows that the sums read, once the row after the step is formed
-  pub rows-made : Fits step.counts step.plan_line.now step.movements.now previous row → SumRows step previous (made_row step previous row)
+  pub rows-made : Fits step.counts step.plan_line.now step.movements.now previous row → ArrivalTables step
+      → SumRows step previous (made_row step previous row)
   unfolding next_row
-  rows-made fits =
+  rows-made fits tables =
       record {
+        arrival-tables = tables;
         previous-size = fits.previous-size;
         row-size = begun-length _ _ row step.counts.links (omega (arith, fits.row-size, fits.few.links)) ∙ fits.row-size;
         left-made = next-left-at step.counts step.plan_line.now step.movements.now previous _ refl;

@@ -5,6 +5,7 @@ use Rattle.base_search.specs.Checks.{refusal, Verdict}
 use Rattle.base_search.proofs.Table.{RulesKept, ItemsKept, items-none, items_more, rules-more, items-broken, rules-all}
 use Rattle.step_rows.specs.declared.Step.{Step}
 use Rattle.step_rows.specs.Rows.{Fits}
+use Rattle.step_limits.specs.Limits.{LimitsKept}
 use Rattle.step_check.specs.Step.{first_sum, rule_number, rule_items, made_row, FormedFor, rule_holds, RuleRows, step_rules_in, JudgeAsked, StepJudged}
 use Rattle.step_check.proofs.Pass.{made-same, made-rest}
 use Rattle.step_check.proofs.Rules.{rule_of, sum-place, formed-once, other_row, rule-in-order, rules-size, limits-kept, rows-made}
@@ -45,8 +46,11 @@ module _ {step : Step} {previous row : List ℕ} where
       ]
 
   module _ (given : JudgeAsked step previous row) {k : ℕ} (kept : RulesKept (step_rules_in step previous row) k) where
+    kept-from : 10 ≤ k → LimitsKept step
+    kept-from h = limits-kept step previous _ (record { kept = λ k l. kept.kept k (omega arith) })
+
     fits-from : 10 ≤ k → Fits step.counts step.plan_line.now step.movements.now previous row
-    fits-from h = given.fits (limits-kept step previous _ (record { kept = λ k l. kept.kept k (omega arith) }))
+    fits-from h = given.fits (kept-from h)
 
     -- the row can be formed
     pub fits-before-16 : {row' : List ℕ} → RowBefore step previous row k row' → rule_of k ≡ first_sum → k < 13 → Fits step.counts step.plan_line.now step.movements.now previous row'
@@ -58,7 +62,11 @@ module _ {step : Step} {previous row : List ℕ} where
     module _ {row' : List ℕ} (w : RowAt step previous row k row') where
       -- and what rule k reads is there
       pub rows-at : RuleRows step previous row' (rule_of k)
-      rows-at = record { sum-rows = λ sum e. let u = sum-place k sum e in rw (w.late u) (rows-made step previous row (fits-from u)) }
+      rows-at = record {
+        limited = given.limited;
+        sum-rows = λ sum e. let u = sum-place k sum e in
+            rw (w.late u) (rows-made step previous row (fits-from u) (given.arrival-tables (kept-from u)));
+      }
 
       pub items-first : ItemsKept (step_rules_in step previous row') k 0
       items-first = rw (made_again w) (items-none kept)

@@ -1,13 +1,14 @@
 -- The judgement of one step by the program's tables: the thirteen rules in their order, each over rising items.
-use Rattle.std.specs.Prelude.{ℕ, ◌+◌, ◌*◌, ◌-◌, ◌≡◌, Bool, true, List, [], ◌∷◌, ◌++◌, length, take, drop, map, Ok}
+use Rattle.std.specs.Prelude.{ℕ, ◌+◌, ◌*◌, ◌-◌, ◌≤◌, ◌≡◌, Bool, true, List, [], ◌∷◌, ◌++◌, length, take, drop, map, Ok}
 use Rattle.base_search.specs.Checks as checks
 use Rattle.base_search.specs.Checks.{verdict, table, Verdict}
 use Rattle.network_tables.specs.declared.Counts.{Counts}
-use Rattle.network_tables.specs.Fields.{row_size, length_in}
+use Rattle.network_tables.specs.Fields.{length_in}
 use Rattle.step_signals.specs.declared.SignalRule.TheVariants.{OnePhase, TramPhase, Order, LeastTime, GreatestTime, Cycle}
 use Rattle.step_signals.specs.Rules.{signal_rule_number, signal_rule_holds}
 use Rattle.step_rows.specs.declared.Step.{Step}
 use Rattle.step_rows.specs.Rows.{next_row, Fits, RowAlone}
+use Rattle.step_rows.specs.Step.{Limited, ArrivalTables}
 use Rattle.step_limits.specs.declared.LimitRule.TheVariants.{Offer, ExitRate, MovementRate, OpenLink}
 use Rattle.step_limits.specs.Limits.{limit_rule_number, limit_items, limit_rule_holds, LimitsKept}
 use Rattle.step_sums.specs.declared.SumRule.{SumRule}
@@ -69,14 +70,20 @@ rules_in step previous row = map (rule_in step previous row) rules
 abbrev pub step_rules_in : Step → List ℕ → List ℕ → List checks.Rule
 step_rules_in step previous row = rules_in step previous (made_row step previous row)
 
--- the rows that a rule reads: the sums of 16 to 18 only once the row after the step is formed
+-- what a rule reads: the limits, tables that are limited, and the sums of 16 to 18 the rows, only once
+-- the row after the step is formed
 pub record RuleRows (step : Step) (previous row : List ℕ) (rule : Rule) : Type 0 where
+  pub limited : Limited step
   pub sum-rows : (sum : SumRule) → rule ≡ Sum sum → SumRows step previous row
 
--- what the judgement of a step requires, by the row before it and a row that is lent: the sums fit once the limits of the volumes are kept
+-- what the judgement of a step requires, by the row before it and a row that is lent: the ledger has
+-- rows up to that before the step; and once the limits of the volumes are kept, the rows have their
+-- sizes, the sums fit, and the tables of what has arrived are there
 pub record JudgeAsked (step : Step) (previous row : List ℕ) : Type 0 where
-  pub row-size : length row ≡ row_size
+  pub limited : Limited step
+  pub before : 2 * step.boundary * step.counts.links ≤ length step.ledger.now
   pub fits : LimitsKept step → Fits step.counts step.plan_line.now step.movements.now previous row
+  pub arrival-tables : LimitsKept step → ArrivalTables step
 
 -- .. and promises: the first broken rule; and where all are kept, the row after the step
 pub record StepJudged (step : Step) (previous row : List ℕ) (result : Verdict) (after : List ℕ) : Type 0 where

@@ -4,12 +4,12 @@
 // are kept, so that its sums fit.
 #![tactic(auto)]
 
-ghost use Rattle.std.specs.Prelude.{◌≡◌, ◌*◌, ◌<◌, ◌≤◌, length};
+ghost use Rattle.std.specs.Prelude.{◌≡◌, ◌<◌};
 ghost use Rattle.step_rows.specs.Rows.{Fits};
 ghost use Rattle.step_check.specs.Step.{rule_number, rule_items, first_sum, row_before, FormedFor, rule_holds, RuleRows, JudgeAsked, StepJudged, PassGot};
 
 use base_search::Refusal;
-use network_tables::Counts;
+use network_tables::{Counts, ROW_SIZE};
 use step_limits::LimitRule;
 use step_rows::Step;
 use step_signals::SignalRule;
@@ -124,14 +124,19 @@ fn first_break(step: &Step, previous: &[u32], row: &mut [u32]) -> Result<(), Ref
 }
 
 // Whether the step keeps every rule: first the signals, then the limits of links and movements, by which the row after it is formed, then the sums of that row.
+// The row is formed while the limits are tested, and the caller owes the rows' sizes only where these
+// are kept. So they are compared first: where they differ, the search finds what is broken, which
+// forms no row before.
 fn keeps_rules(step: &Step, previous: &[u32], row: &mut [u32]) -> bool
-    requires asked { JudgeAsked step.now previous.now row.old }
-    requires before { 2 * step.now.counts.links ≤ length previous.now }
+    requires { JudgeAsked step.now previous.now row.old }
     ensures { PassGot step.now previous.now row.old result row.new }
 {
     let count = step.counts.signals;
     let seconds = step.step_line[0];
     if !step_signals::keeps_signal_rules(step.signals, count, step.phases, step.asked, seconds) {
+        return false;
+    }
+    if row.len() != ROW_SIZE || previous.len() < 2 * step.counts.links {
         return false;
     }
     if !step_limits::row_within_limits(step, previous, row) {

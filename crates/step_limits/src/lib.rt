@@ -5,6 +5,7 @@
 ghost use Rattle.std.specs.Prelude.{◌≡◌, ◌*◌, ◌<◌, ◌≤◌, leb, length, true};
 ghost use Rattle.network_tables.specs.Fields.{row_size};
 ghost use Rattle.step_rows.specs.Rows.{RowAlone};
+ghost use Rattle.step_rows.specs.Step.{Limited};
 ghost use Rattle.step_limits.specs.Limits.{limit_rule_number, admits_offer, lets_out_rate, is_open_in, moves_rate, moves_open, limit_items, limit_rule_holds, LinksPassed, MovementsPassed, RowGot};
 ghost use Rattle.base_laws.specs.Test.{◌and◌};
 
@@ -44,7 +45,8 @@ fn admits_offer(step: &Step, i: usize) -> bool
 // 25, link i: let out is at most exit rate × length.
 #[tactic(auto, unfolding(crate::specs::Limits::lets_out_rate))]
 fn lets_out_rate(step: &Step, i: usize) -> bool
-    requires { i < step.now.counts.links }
+    requires limited { Limited step.now }
+    requires item_bound { i < step.now.counts.links }
     ensures { result ≡ lets_out_rate step.now i }
 {
     let volume = let_out(step.plan_line, step.counts, i);
@@ -53,7 +55,8 @@ fn lets_out_rate(step: &Step, i: usize) -> bool
 
 // A link without a signal is always open; another is open if its signal shows a phase of the link's mask.
 fn is_open(step: &Step, i: usize) -> bool
-    requires { i < step.now.counts.links }
+    requires limited { Limited step.now }
+    requires item_bound { i < step.now.counts.links }
     ensures { result ≡ is_open_in step.now.links.now step.now.phases.now i }
 {
     let signal = step.links[i].signal as usize;
@@ -66,7 +69,8 @@ fn is_open(step: &Step, i: usize) -> bool
 // 26, movement j: it is at most its rate × length.
 #[tactic(auto, unfolding(crate::specs::Limits::moves_rate))]
 fn moves_rate(step: &Step, j: usize) -> bool
-    requires { j < step.now.counts.movements }
+    requires limited { Limited step.now }
+    requires item_bound { j < step.now.counts.movements }
     ensures { result ≡ moves_rate step.now j }
 {
     let volume = moved(step.plan_line, step.counts, j);
@@ -75,7 +79,8 @@ fn moves_rate(step: &Step, j: usize) -> bool
 
 // 27, movement j: it is 0 if its from link is shut. Most are 0, so this is tested first.
 fn moves_open(step: &Step, j: usize) -> bool
-    requires { j < step.now.counts.movements }
+    requires limited { Limited step.now }
+    requires item_bound { j < step.now.counts.movements }
     ensures { result ≡ moves_open step.now j }
 {
     moved(step.plan_line, step.counts, j) == 0 || is_open(step, step.from_link(j))
@@ -108,7 +113,8 @@ impl LimitRule {
     // Whether it holds of an item.
     #[tactic(auto, unfolding(crate::specs::Limits::limit_rule_holds))]
     pub fn holds(self, step: &Step, item: usize) -> bool
-        requires { item < limit_items step.now.counts self }
+        requires limited { Limited step.now }
+        requires item_bound { item < limit_items step.now.counts self }
         ensures { result ≡ limit_rule_holds step.now self item }
     {
         match self {
@@ -122,7 +128,8 @@ impl LimitRule {
 
 // Whether a movement keeps 26 and 27, as one that is 0 does. By the tests of both a plan took 1 to 2 % more instructions.
 fn moves_within(step: &Step, j: usize) -> bool
-    requires { j < step.now.counts.movements }
+    requires limited { Limited step.now }
+    requires item_bound { j < step.now.counts.movements }
     ensures { result ≡ (moves_rate step.now j and moves_open step.now j) }
 {
     let volume = moved(step.plan_line, step.counts, j);
@@ -133,7 +140,8 @@ fn moves_within(step: &Step, j: usize) -> bool
 
 // Whether all links keep 15 and 25. The row is begun with each that does.
 fn links_within_limits(step: &Step, previous: &[u32], row: &mut [u32]) -> bool
-    requires { (2 * step.now.counts.links ≤ length previous.now) × (length row.old ≡ row_size) }
+    requires limited { Limited step.now }
+    requires room { (2 * step.now.counts.links ≤ length previous.now) × (length row.old ≡ row_size) }
     ensures passed { result ≡ true → LinksPassed step.now previous.now row.old step.now.counts.links row.new }
     ensures alone { RowAlone step.now.counts row.old row.new }
 {
@@ -148,7 +156,8 @@ fn links_within_limits(step: &Step, previous: &[u32], row: &mut [u32]) -> bool
 
 // Whether all movements keep 26 and 27. Each that does is added to the row.
 fn movements_within_limits(step: &Step, row: &mut [u32]) -> bool
-    requires { length row.old ≡ row_size }
+    requires limited { Limited step.now }
+    requires room { length row.old ≡ row_size }
     ensures passed { result ≡ true → MovementsPassed step.now row.old step.now.counts.movements row.new }
     ensures alone { RowAlone step.now.counts row.old row.new }
 {
@@ -164,7 +173,8 @@ fn movements_within_limits(step: &Step, row: &mut [u32]) -> bool
 // Whether all limits are kept, by one pass over the links and one over the movements, which form the row after the step meanwhile: with the row formed apart, by
 // `step_rows::next_row`, the largest plan took 6 % more instructions.
 pub fn row_within_limits(step: &Step, previous: &[u32], row: &mut [u32]) -> bool
-    requires { (2 * step.now.counts.links ≤ length previous.now) × (length row.old ≡ row_size) }
+    requires limited { Limited step.now }
+    requires room { (2 * step.now.counts.links ≤ length previous.now) × (length row.old ≡ row_size) }
     ensures { RowGot step.now previous.now row.old result row.new }
 {
     links_within_limits(step, previous, row) && movements_within_limits(step, row)

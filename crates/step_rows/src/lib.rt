@@ -33,7 +33,7 @@ pub struct Step<'a> {
     pub ledger: &'a [u32],
     pub arrivals: &'a [Arrival],
     pub boundary: usize,
-    ghost fit: { StepFit counts links.now movements.now times.now signals.now plan_line.now step_line.now phases.now asked.now ledger.now arrivals.now boundary },
+    ghost fit: { StepFit counts links.now movements.now signals.now plan_line.now step_line.now phases.now asked.now boundary },
 }
 
 impl Step<'_> {

@@ -6,6 +6,7 @@ use Rattle.step_arrivals.specs.Arrivals.{seconds_in, elapsed_in, scaled_in}
 use Rattle.step_past.specs.Curves.{arrival_at}
 use Rattle.step_rows.specs.declared.Step.{Step}
 use Rattle.step_rows.specs.Rows.{moved_by, next_left}
+use Rattle.step_rows.specs.Step.{ArrivalTables}
 use Rattle.step_sums.specs.declared.SumRule.{SumRule}
 use Rattle.step_sums.specs.declared.SumRule.TheVariants.{Share, Arrivals, Capacity}
 
@@ -69,8 +70,10 @@ pub record SumsKept (step : Step) (previous row : List ℕ) : Type 0 where
   pub of-movements : SharesKept step step.counts.movements
   pub of-links : LinkSumsKept step previous row step.counts.links
 
--- the rows that these read: left in the row is what the line makes of the row before
+-- what these read: the tables of what has arrived, and the rows, where left in the row is what the
+-- line makes of the row before
 pub record SumRows (step : Step) (previous row : List ℕ) : Type 0 where
+  pub arrival-tables : ArrivalTables step
   pub previous-size : 2 * step.counts.links ≤ length previous
   pub row-size : length row ≡ row_size
   pub left-made : (i : ℕ) → i < step.counts.links → left_in row i ≡ next_left step.counts step.plan_line.now step.movements.now previous i
