@@ -41,5 +41,5 @@ pub fn run_case(rt: &impl Print, file: &mut impl Read, number: u32) -> Result<us
     read_each(file, &mut volumes, read_u32)?;
     let same = judge(rt, number, corridor, stored, &volumes);
     let numbers = [Reason::CorridorLine.number(), Reason::CellStart.number()];
-    Ok(tally::place_of(&numbers, stored.0.err(), same))
+    Ok(tally::place_of(&numbers, stored.refusal, same))
 }

@@ -21,33 +21,46 @@ pub struct Flows {
     pub flow_out: u64,
 }
 
-// The answer without the volumes.
+// The answer without the volumes. No `Result`: a file may give a refusal flows too, and such a case
+// must differ.
 #[derive(Clone, Copy, PartialEq)]
-pub struct Reported(pub Result<Flows, Refusal>);
+pub struct Reported {
+    pub refusal: Option<Refusal>,
+    pub flows: Flows,
+}
 
 // Each number behind a tab, those of a refusal first; 0 where there is none.
 impl Display for Reported {
     fn fmt<W: fmt::Write>(&self, f: &mut fmt::Formatter<W>) -> fmt::Result {
-        let flows = self.0.unwrap_or_default();
-        write!(f, "{}", Columns(self.0.err()))?;
-        write!(
-            f,
-            "\t{}\t{}\t{}",
-            flows.cells, flows.flow_in, flows.flow_out
-        )
+        let Flows {
+            cells,
+            flow_in,
+            flow_out,
+        } = self.flows;
+        write!(f, "{}", Columns(self.refusal))?;
+        write!(f, "\t{cells}\t{flow_in}\t{flow_out}")
     }
 }
 
-// The library's answer in this form.
+// The library's answer in this form; the flows of a refusal are 0.
 impl From<Result<CellsRun, Refusal>> for Reported {
     ghost from_gives = { λ answer reported. reported ≡ reported_of answer };
 
     fn from(answer: Result<CellsRun, Refusal>) -> Reported {
-        Reported(answer.map(|run| Flows {
-            cells: run.cells,
-            flow_in: run.flow_in,
-            flow_out: run.flow_out,
-        }))
+        match answer {
+            Ok(run) => Reported {
+                refusal: None,
+                flows: Flows {
+                    cells: run.cells,
+                    flow_in: run.flow_in,
+                    flow_out: run.flow_out,
+                },
+            },
+            Err(refusal) => Reported {
+                refusal: Some(refusal),
+                flows: Flows::default(),
+            },
+        }
     }
 }
 
@@ -61,19 +74,16 @@ pub fn volumes_in(answer: Result<CellsRun, Refusal>) -> [u32; MAX_CELLS]
     }
 }
 
-// Reads the stored answer. A refusal has no flows.
+// Reads the stored answer, the flows of a refusal too.
 pub fn read_reported<R: Read>(file: &mut R) -> Result<Reported, Malformed>
     ensures { IfOk result (λ reported. Consumes (R.remaining file.old) (R.remaining file.new) (reported_bytes reported)) }
 {
-    let refusal = read_refusal(file)?;
-    let flows = Flows {
-        cells: read_u32(file)?,
-        flow_in: read_u64(file)?,
-        flow_out: read_u64(file)?,
-    };
-    match refusal {
-        None => Ok(Reported(Ok(flows))),
-        Some(refusal) if flows == Flows::default() => Ok(Reported(Err(refusal))),
-        Some(_) => Err(Malformed),
-    }
+    Ok(Reported {
+        refusal: read_refusal(file)?,
+        flows: Flows {
+            cells: read_u32(file)?,
+            flow_in: read_u64(file)?,
+            flow_out: read_u64(file)?,
+        },
+    })
 }

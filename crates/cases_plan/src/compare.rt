@@ -1,7 +1,7 @@
 // Reads the cases, judges each by the proved calls and counts.
 use crate::answers::{Case, Texts, judge};
 use crate::kept::Kept;
-use crate::stored::Filled;
+use crate::stored::{Asked, Filled, Reported};
 use crate::tally::COUNTERS;
 use crate::{stored, tally};
 use cases_files::files;
@@ -43,13 +43,17 @@ struct Given<'a> {
     buffer: Filled,
 }
 
-// Fills the ledgers and the buffer as the case gives them, and judges the case.
+// Fills the ledgers and the buffer as the case gives them, and judges the case; returns where it is
+// counted. A case whose boundary or link does not fit a call is passed over, but only after its
+// fill and lengths are tested: if one of these does not fit, the file is malformed all the same.
 fn judge_filled(
     rt: &impl Print,
+    number: u32,
     texts: Texts<'_>,
-    case: Case,
+    asked: Asked,
+    stored: Reported,
     given: Given<'_>,
-) -> Result<bool, Malformed> {
+) -> Result<usize, Malformed> {
     let fill = u8::try_from(given.buffer.fill).map_err(|_| Malformed)?;
     let mut ledger = [given.ledger.fill; LEDGER_ROOM];
     let mut second_ledger = [given.second_ledger.fill; LEDGER_ROOM];
@@ -61,11 +65,22 @@ fn judge_filled(
     let buffer = buffer.get_mut(..given.buffer.length).ok_or(Malformed)?;
     let start = ledger.get_mut(..given.start.len()).ok_or(Malformed)?;
     start.copy_from_slice(given.start);
-    Ok(judge(rt, texts, case, ledger, second_ledger, buffer))
+    let Some(question) = asked.question() else {
+        return Ok(tally::PASSED_OVER);
+    };
+    let case = Case {
+        number,
+        question,
+        stored,
+    };
+    Ok(if judge(rt, texts, case, ledger, second_ledger, buffer) {
+        tally::place_of(asked.call, stored.outcome)
+    } else {
+        tally::DIFFERENT
+    })
 }
 
-// Reads and judges one case; returns where it is counted. A case whose boundary or link does not fit a call is passed
-// over.
+// Reads and judges one case; returns where it is counted.
 fn run_case<R: Read>(
     rt: &impl Print,
     file: &mut R,
@@ -83,18 +98,10 @@ fn run_case<R: Read>(
     let second = stored::read_second(file, &mut room, asked.call)?;
     let second_ledger = stored::read_second_filled(file, asked.call)?;
     let stored = stored::read_reported(file)?;
-    let Some(question) = asked.question() else {
-        return Ok(tally::PASSED_OVER);
-    };
     let texts = Texts {
         network,
         plan,
         second,
-    };
-    let case = Case {
-        number,
-        question,
-        stored,
     };
     let given = Given {
         ledger,
@@ -102,11 +109,7 @@ fn run_case<R: Read>(
         second_ledger,
         buffer: asked.buffer,
     };
-    Ok(if judge_filled(rt, texts, case, given)? {
-        tally::place_of(asked.call, stored.outcome)
-    } else {
-        tally::DIFFERENT
-    })
+    judge_filled(rt, number, texts, asked, stored, given)
 }
 
 // Judges and counts the cases of a file, and prints how many it has. No contract: nothing can say what the file gives, or what is printed.

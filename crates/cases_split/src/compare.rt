@@ -55,8 +55,9 @@ fn is_as_stored(
         (buffers told.entry.network_1.now told.entry.plan_1.now told.entry.network_2.now told.entry.plan_2.now) }
 {
     let given = Columns(answer.err());
-    let expected = Columns(stored.answer.err());
-    let is_left = answer.ok() == stored.answer.ok() && told::are_as_told(left, told);
+    let expected = Columns(stored.refusal);
+    let have_lengths = told::lengths_of(answer) == stored.lengths;
+    let is_left = have_lengths && told::are_as_told(left, told);
     agrees(rt, stored.number, &given, &expected, is_left)
 }
 
@@ -136,7 +137,8 @@ pub fn run_case(rt: &impl Print, file: &mut impl Read, number: u32) -> Result<us
         stored: Stored {
             number,
             first_half,
-            answer: refusal.map_or(Ok(written), Err),
+            refusal,
+            lengths: written,
         },
         told: Buffers {
             network_1: &network_1,

@@ -2,7 +2,7 @@
 ghost use Rattle.std.specs.Prelude.{◌≡◌, IfOk};
 ghost use Rattle.std.specs.Io.KnownBytes.{Consumes};
 ghost use Rattle.split.specs.Splitting.{buffers};
-ghost use Rattle.cases_split.specs.Told.{left_as_told, lengths_bytes};
+ghost use Rattle.cases_split.specs.Told.{lengths_of, left_as_told, lengths_bytes};
 
 use base_search::Refusal;
 use cases_files::reading::{Malformed, read_u32};
@@ -16,12 +16,14 @@ pub struct Texts<'a> {
     pub plan: &'a [u8],
 }
 
-// What was stored of a split, by its number from 0: the set of links, and the answer.
+// What was stored of a split, by its number from 0: the set of links, the refusal, and how long the
+// texts are. No `Result`: a file may give a refused split texts too, and such a split must differ.
 #[derive(Clone, Copy)]
 pub struct Stored {
     pub number: u32,
     pub first_half: u32,
-    pub answer: Result<Lengths, Refusal>,
+    pub refusal: Option<Refusal>,
+    pub lengths: Lengths,
 }
 
 // The four buffers after a split, or what was stored of them, a room for each. `Lengths` is a type of its own: the
@@ -32,6 +34,21 @@ pub struct Buffers<'a> {
     pub plan_1: &'a [u8],
     pub network_2: &'a [u8],
     pub plan_2: &'a [u8],
+}
+
+// How long the texts are that were written; 0 if the call is refused.
+pub fn lengths_of(answer: Result<Lengths, Refusal>) -> Lengths
+    ensures { result ≡ lengths_of answer }
+{
+    match answer {
+        Ok(lengths) => lengths,
+        Err(_) => Lengths {
+            network_1: 0,
+            plan_1: 0,
+            network_2: 0,
+            plan_2: 0,
+        },
+    }
 }
 
 // Whether each buffer holds what was stored of it, and is no longer than the room of that.
