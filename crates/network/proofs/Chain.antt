@@ -1,5 +1,5 @@
 -- The stages of a network's reading, one after another: where one is refused, so is the network; and what each asks of those before it.
-use Rattle.base_laws.proofs.Kit.{ℕ, ◌≡◌, sym, ◌∙◌, List, arith, length, take, length-take-le}
+use Rattle.base_laws.proofs.Kit.{ℕ, ◌≡◌, sym, ap, ◌∙◌, List, arith, length, take, length-take-le}
 use Rattle.base_search.specs.declared.Refusal.{Refusal}
 use Rattle.base_search.specs.Checks.{Checks, each, ◌then◌, verdict, Verdict}
 use Rattle.base_search.proofs.Laws.{hold-of-passes}
@@ -77,7 +77,15 @@ module _ {text : List ℕ} {signals₀ : List Signal} {links₀ : List Link} {mo
 
       module _ {at_links : Reading} (e₂ : signalled ≡ Ok at_links) where
         pub links-asked : LinksAsked text at_links signals links₀
-        links-asked = let held = j₁.held _ e₂ in record { reached = held.reached; signal-table = held.table; few-phases = held.few; room = room.link-room }
+        links-asked =
+            let held = j₁.held _ e₂ in
+            record {
+              reached = held.reached;
+              signal-size = held.table.size;
+              phases-told = λ r l. ap (λ (s : Signal). s.phases) (held.table.holds r l);
+              few-phases = held.few;
+              room = room.link-room;
+            }
 
         left₂ : Left text (from_links text)
         left₂ = on (network_checks (lines text)) _ (from_links text) left₁ (verdict-passed j₁ e₂)

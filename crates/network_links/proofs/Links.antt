@@ -16,7 +16,7 @@ use Rattle.network_tables.specs.Places.{link_line_in}
 use Rattle.network_tables.specs.declared.Link.{Link}
 use Rattle.network_tables.specs.Fields.{link_fields, link_by, link_at, signal_at, no_signal}
 use Rattle.network_tables.specs.Blocks.{block_checks, RowsTo, RowsJudged, RowsHeld, link_block}
-use Rattle.network_tables.specs.Tables.{Judged, SignalTable, moved_to}
+use Rattle.network_tables.specs.Tables.{Judged, moved_to}
 use Rattle.network_tables.proofs.Places.{movements-after-links}
 use Rattle.network_tables.proofs.Blocks.{passed-all, block-end, records-judged}
 use Rattle.network_tables.proofs.Stages.{judged-refused, judged-passed, reached-next}
@@ -51,12 +51,13 @@ abbrev pub MadeBy : List ℕ → Link → Type 0
 MadeBy fields link = link ≡ link_by (λ k. get_or fields k 0)
 
 -- ---- the paper's test of link i, by the part of the table that has the signals
-module _ {network : List Line} {signals : List Signal} (t : SignalTable network signals) (few : signal_count network ≤ max_signals) (i : ℕ) where
+module _ (network : List Line) (signals : List Signal) (size : length signals ≡ max_signals)
+    (phases-told : (r : ℕ) → r < signal_count network → (signal_at signals r).phases ≡ (signal network r).phases) (few : signal_count network ≤ max_signals) (i : ℕ) where
   abbrev held : List Signal
   held = take (signal_count network) signals
 
   held-size : length held ≡ signal_count network
-  held-size = length-take-le (signal_count network) signals (omega (arith, t.size))
+  held-size = length-take-le (signal_count network) signals (omega arith)
 
   mask-valid : leb (signal_of network i) (signal_count network) ≡ true → valid_mask_in (phase_mask network i) (signal_of network i) held ≡ valid_mask network i
   unfolding valid_mask_in valid_mask
@@ -69,7 +70,7 @@ module _ {network : List Line} {signals : List Signal} (t : SignalTable network 
       by false e =
           let some = eqb-false (signal_of network i) 0 e in
           let below : signal_of network i - 1 < signal_count network = omega (arith, leb-true (signal_of network i) (signal_count network) h) in
-          rw (get_or-take (signal_count network) signals (signal_of network i - 1) no_signal below, t.holds (signal_of network i - 1) below)
+          rw (get_or-take (signal_count network) signals (signal_of network i - 1) no_signal below, phases-told (signal_of network i - 1) below)
 
   link-valid : valid_link_in (link_by (entry network (link_line network i))) held ≡ valid_link network i
   unfolding valid_link_in valid_link ◌and◌ capacity travel_time exit_rate signal_of phase_mask standing
@@ -95,7 +96,7 @@ module _ {text : List ℕ} {reading : Reading} {signals : List Signal} {links₀
   unfolding link_checks link_line
   links-judged e says =
       records-judged (λ i. refl) (sym asked.reached.counted.links) (λ i. omega (arith, asked.reached.counted.trams, asked.reached.counted.signals))
-      (λ i links said h rows p. says links i said p ∙ rw (add-one i, asked.reached.counted.signals, link-is (lines text) links.now rows i (omega arith), link-valid asked.signal-table (omega (arith, asked.reached.counted.signals, asked.reached.counted.few.signals)) i) refl)
+      (λ i links said h rows p. says links i said p ∙ rw (add-one i, asked.reached.counted.signals, link-is (lines text) links.now rows i (omega arith), link-valid (lines text) signals asked.signal-size asked.phases-told (omega (arith, asked.reached.counted.signals, asked.reached.counted.few.signals)) i) refl)
 
   module _ {result : Result ℕ Refusal} {links : List Link} (got : RowsHeld MadeBy text (link_block (lines text)) link_fields (length links₀) result links) where
     pub links-refused : {r : Refusal} → result ≡ Err r → Judged (block_checks (link_block (lines text))) (LinksHeld text links) (Err r)

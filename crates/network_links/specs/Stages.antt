@@ -1,18 +1,21 @@
 -- What the stages of a network's reading that judge links and movements require, and what is held where they pass.
-use Rattle.std.specs.Prelude.{ℕ, ◌≡◌, List, length, take}
+use Rattle.std.specs.Prelude.{ℕ, ◌<◌, ◌≡◌, List, length, take}
 use Rattle.text_reader.specs.Lines.{lines}
 use Rattle.model.specs.declared.Signal.{Signal}
-use Rattle.model.specs.Network.{max_links, max_movements, link_line, movement_line, timeline_line}
+use Rattle.model.specs.Network.{max_signals, max_links, max_movements, signal_count, link_line, movement_line, timeline_line, signal}
 use Rattle.network_tables.specs.declared.Counts.{Counts}
 use Rattle.network_tables.specs.declared.Reading.{Reading}
 use Rattle.network_tables.specs.declared.Link.{Link}
 use Rattle.network_tables.specs.declared.Movement.{Movement}
 use Rattle.network_tables.specs.Places.{Few}
-use Rattle.network_tables.specs.Tables.{Reached, SignalTable, FewPhases, LinkTable, MovementTable}
+use Rattle.network_tables.specs.Fields.{signal_at}
+use Rattle.network_tables.specs.Tables.{Reached, FewPhases, LinkTable, MovementTable}
 
+-- of the signals the numbers of phases alone are read
 pub record LinksAsked (text : List ℕ) (reading : Reading) (signals : List Signal) (links : List Link) : Type 0 where
   pub reached : Reached text (link_line (lines text) 0) reading
-  pub signal-table : SignalTable (lines text) signals
+  pub signal-size : length signals ≡ max_signals
+  pub phases-told : (r : ℕ) → r < signal_count (lines text) → (signal_at signals r).phases ≡ (signal (lines text) r).phases
   pub few-phases : FewPhases (lines text) signals
   pub room : length links ≡ max_links
 
