@@ -181,6 +181,9 @@ module _ {tables : NetworkTables} {st : Standing} (a : CarryAsked tables st) {tr
   abbrev few : Few C
   few = a.loaded.counted.few
 
+  movement-size : length tables.movements.now ≡ C.movements
+  movement-size = a.loaded.movement-table.size ∙ sym a.loaded.counted.movements
+
   module _ {t₁ : List ℕ} {o₀ o₁ : Output} (start : o₀.at ≡ 0) (p₁ : Put 1 t₁ o₀ o₁) where
     pub trams-early : Early (length trams) o₁
     trams-early = omega (arith, held.size, a.loaded.counted.trams, start, p₁.ends, p₁.few, few.trams)
@@ -198,7 +201,7 @@ module _ {tables : NetworkTables} {st : Standing} (a : CarryAsked tables st) {tr
           before-movements = omega (arith, start, p₁.ends, p₁.few, p₂.ends, p₂.few, p₃.ends, p₃.few, p₄.ends, p₄.few, few.trams, few.signals, few.links)
 
           pub movements-early : Early (length tables.movements.now) o₄
-          movements-early = omega (arith, tables.sized.movement-size, before-movements, few.movements)
+          movements-early = omega (arith, movement-size, before-movements, few.movements)
 
           module _ {t₅ : List ℕ} {o₅ : Output} (p₅ : Put C.movements t₅ o₄ o₅) where
             before-past : o₅.at ≤ longest * 113
@@ -299,7 +302,7 @@ module _ {tables : NetworkTables} {st : Standing} (a : CarryAsked tables st) {tr
   pub movements-put : {old new : Output}
       → Put (length tables.movements.now) (line_texts letter_m (rows_to (length tables.movements.now) (λ j. movement_row (movement_at tables.movements.now j) ∷ []))) old new
       → Put C.movements (record_texts letter_m C.movements (λ j. movement_row (movement_at tables.movements.now j))) old new
-  movements-put p = rw (tables.sized.movement-size, each-one letter_m (λ j. movement_row (movement_at tables.movements.now j)) C.movements) at p
+  movements-put p = rw (movement-size, each-one letter_m (λ j. movement_row (movement_at tables.movements.now j)) C.movements) at p
 
   -- ---- all blocks, one behind another
   module _ (next : ℕ) {left width rest-width : ℕ} {o₀ o₁ o₂ o₃ o₄ o₅ o₆ o₇ o₈ : Output} (start : o₀.at ≡ 0)

@@ -130,12 +130,11 @@ module _ {text : List ℕ} {signals₀ : List Signal} {links₀ : List Link} {mo
                   shares-stop e = tables-refused (stop (network_checks (lines text)) _ (timeline_checks (lines text)) left₄ (checked ∙ e))
 
                   module _ (e₅ : shared ≡ Ok tt) where
-                    pub timeline-asked : TimelineAsked text at_shares (take at_shares.counts.links links) (take at_shares.counts.movements movements) times₀ row₀ arrivals₀
+                    pub timeline-asked : TimelineAsked text at_shares (take at_shares.counts.links links) times₀ row₀ arrivals₀
                     timeline-asked =
                         record {
                           reached = (j₃.held _ e₄).reached;
                           link-table = link-table;
-                          movement-size = (j₃.held _ e₄).table.size;
                           limits = link-limits (lines text) (verdict-passed j₂ e₃);
                           room = room.time-room;
                           row-room = room.row-room;

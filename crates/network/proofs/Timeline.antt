@@ -39,7 +39,7 @@ unfolding Hold past_checks
 past-forms network e m l = hold-of-passes (block_checks (past_block network)) e m l
 
 -- ---- the stages
-module _ {text : List ℕ} {reading : Reading} {links : List Link} {movements : List Movement} {times₀ row₀ : List ℕ} {arrivals₀ : List Arrival} (asked : TimelineAsked text reading links movements times₀ row₀ arrivals₀) where
+module _ {text : List ℕ} {reading : Reading} {links : List Link} {times₀ row₀ : List ℕ} {arrivals₀ : List Arrival} (asked : TimelineAsked text reading links times₀ row₀ arrivals₀) where
   abbrev from_end : Checks
   from_end = end_checks (lines text) then past_end_checks (lines text)
 
@@ -117,8 +117,8 @@ module _ {text : List ℕ} {reading : Reading} {links : List Link} {movements : 
                 pub past-stop : {Held : NetworkTables → Type 0} {r : Refusal} → said ≡ Err r → TablesJudged (timeline_checks (lines text)) Held (Err r)
                 past-stop e = tables-refused (left₃ ∙ e)
 
-                pub timeline-judged : said ≡ Ok tt → {row : List ℕ} {arrivals : List Arrival} → PastHeld text row arrivals → (tables : NetworkTables) → tables.text.now ≡ text → tables.reading ≡ at_end → tables.links.now ≡ links → tables.movements.now ≡ movements
-                    → tables.times.now ≡ times' → TablesJudged (timeline_checks (lines text)) (TimelineHeld text links movements row arrivals) (Ok tables)
+                pub timeline-judged : said ≡ Ok tt → {row : List ℕ} {arrivals : List Arrival} → PastHeld text row arrivals → (tables : NetworkTables) → tables.text.now ≡ text → tables.reading ≡ at_end → tables.links.now ≡ links
+                    → {movements : List Movement} → tables.movements.now ≡ movements → tables.times.now ≡ times' → TablesJudged (timeline_checks (lines text)) (TimelineHeld text links movements row arrivals) (Ok tables)
                 timeline-judged e past-held tables x r l m t =
                     tables-passed (left₃ ∙ e)
                     (record {

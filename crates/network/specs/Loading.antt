@@ -5,7 +5,7 @@ use Rattle.base_search.specs.Checks.{Checks, check, each, ◌then◌, Hold, verd
 use Rattle.text_reader.specs.Lines.{Line, lines}
 use Rattle.text_reader.specs.Reading.{Starts}
 use Rattle.model.specs.declared.Signal.{Signal}
-use Rattle.model.specs.Network.{max_signals, max_links, max_movements, link_count, movement_count, step_count, tram_count, tram_line, timeline_line, step_line, capacity, standing, travel_time}
+use Rattle.model.specs.Network.{max_signals, max_links, max_movements, link_count, step_count, tram_count, tram_line, timeline_line, step_line, capacity, standing, travel_time}
 use Rattle.model.specs.Table.{tram_phase_checks, network_checks}
 use Rattle.network_tables.specs.declared.Reading.{Reading}
 use Rattle.network_tables.specs.Blocks.{block_checks, tram_block, signal_block, past_block, step_block}
@@ -43,10 +43,9 @@ abbrev pub timeline_checks : List Line → Checks
 timeline_checks network = block_checks (past_block network) then block_checks (step_block network) then end_checks network then past_end_checks network
 
 -- the text after the `M` lines, whose links have passed
-pub record TimelineAsked (text : List ℕ) (reading : Reading) (links : List Link) (movements : List Movement) (times row : List ℕ) (arrivals : List Arrival) : Type 0 where
+pub record TimelineAsked (text : List ℕ) (reading : Reading) (links : List Link) (times row : List ℕ) (arrivals : List Arrival) : Type 0 where
   pub reached : Reached text (timeline_line (lines text) 0) reading
   pub link-table : LinkTable (lines text) links
-  pub movement-size : length movements ≡ movement_count (lines text)
   pub limits : (i : ℕ) → i < link_count (lines text) → (capacity (lines text) i ≤ 2_000_000_000) × ((standing (lines text) i ≤ capacity (lines text) i) × (1 ≤ travel_time (lines text) i))
   pub room : length times ≡ time_table_size
   pub row-room : length row ≡ row_size

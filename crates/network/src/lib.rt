@@ -76,7 +76,7 @@ fn read_timeline<'a>(
     row: &mut [u32],
     arrivals: &mut [Arrival],
 ) -> Result<NetworkTables<'a>, Refusal>
-    requires { TimelineAsked text.now reading links.now movements.now times.old row.old arrivals.old }
+    requires { TimelineAsked text.now reading links.now times.old row.old arrivals.old }
     ensures { TablesJudged (timeline_checks (lines text.now)) (TimelineHeld text.now links.now movements.now row.new arrivals.new) result }
 {
     let mut demands = [0u32; MAX_LINKS];

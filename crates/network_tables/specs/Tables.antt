@@ -56,12 +56,10 @@ pub record SignalTable (network : List Line) (signals : List Signal) : Type 0 wh
   pub size : length signals ≡ max_signals
   pub holds : (r : ℕ) → r < signal_count network → signal_at signals r ≡ signal network r
 
--- the tables of a network have a link and a movement for each that it has, and its counts are few
-pub record TablesSized (reading : Reading) (links : List Link) (movements : List Movement) (times : List ℕ) : Type 0 where
+-- the counts of a network are few, and its table of links has one for each: what reads movements or times says itself how many there are
+pub record TablesSized (reading : Reading) (links : List Link) : Type 0 where
   pub few : Few reading.counts
   pub link-size : length links ≡ reading.counts.links
-  pub movement-size : length movements ≡ reading.counts.movements
-  pub time-size : length times ≡ time_table_size
 
 -- no signal has more than 8 phases
 pub record FewPhases (network : List Line) (signals : List Signal) : Type 0 where

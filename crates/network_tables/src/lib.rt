@@ -209,7 +209,8 @@ impl Reading {
 }
 
 // A network's text and the tables that are read from it, without its signals, which change from step to step. All
-// tables are lent; those of links and movements are cut to as many as the network has.
+// tables are lent; those of links and movements are cut to as many as the network has. The type says so of the links
+// alone, so that a function that reads no movement or time asks nothing of their tables.
 #[derive(Clone, Copy)]
 pub struct NetworkTables<'a> {
     pub text: &'a [u8],
@@ -217,7 +218,7 @@ pub struct NetworkTables<'a> {
     pub links: &'a [Link],
     pub movements: &'a [Movement],
     pub times: &'a [u32],
-    ghost sized: { TablesSized reading links.now movements.now times.now },
+    ghost sized: { TablesSized reading links.now },
 }
 
 // The places of lines in a network text, from 0, and how many numbers an `H`, an `S` and a `P` line have.

@@ -1,5 +1,5 @@
 -- The movements of a network that has passed name its links.
-use Rattle.base_laws.proofs.Kit.{ℕ, zero, suc, ◌-◌, ◌≤◌, ◌<◌, List, arith}
+use Rattle.base_laws.proofs.Kit.{ℕ, zero, suc, ◌-◌, ◌≤◌, ◌<◌, sym, ◌∙◌, List, arith}
 use Rattle.base_search.specs.Checks.{Hold}
 use Rattle.text_reader.specs.Lines.{Line}
 use Rattle.model.specs.Network.{link_count, movement_count, from_link, to_link}
@@ -42,10 +42,13 @@ module _ (network : List Line) (holds : Hold (network_checks network)) where
   movements-there tables counted table =
       record {
         few = tables.sized.few.movements;
-        size = tables.sized.movement-size;
+        size = table.size ∙ sym counted.movements;
         links = λ j side l s. let e = movement-ends table j side (omega (arith, counted.movements)) s in (e.0, omega (arith, e.1, counted.links, tables.sized.few.links));
       }
 
   pub halves-asked : (tables : NetworkTables) → CountsHold network tables.reading.counts → MovementTable network tables.movements.now → HalvesAsked tables
   halves-asked tables counted table =
-      record { ends = λ j side l s. let e = movement-ends table j side (omega (arith, counted.movements)) s in (e.0, omega (arith, e.1, counted.links)) }
+      record {
+        movement-size = table.size ∙ sym counted.movements;
+        ends = λ j side l s. let e = movement-ends table j side (omega (arith, counted.movements)) s in (e.0, omega (arith, e.1, counted.links));
+      }

@@ -1,5 +1,5 @@
 -- Both halves numbered by the set of links in the first.
-use Rattle.std.specs.Prelude.{ℕ, suc, ◌≤◌, ◌<◌, Bool, not, List, eqb, length}
+use Rattle.std.specs.Prelude.{ℕ, suc, ◌≤◌, ◌<◌, ◌≡◌, Bool, not, List, eqb, length}
 use Rattle.text_reader.specs.Lines.{Line}
 use Rattle.base_laws.specs.Test.{◌or◌, every}
 use Rattle.network_tables.specs.declared.Link.{Link}
@@ -17,8 +17,9 @@ use Rattle.split_tables.specs.Tables.{HalfNumbered}
 unfoldable pub outside_has : ℕ → List Link → ℕ → Bool
 outside_has set links r = not (every (length links) (λ i. in_set set i or not (eqb (signal_in links i) (suc r))))
 
--- the movements of a network's tables name its links
+-- a network's tables have its movements, which name its links
 pub record HalvesAsked (tables : NetworkTables) : Type 0 where
+  pub movement-size : length tables.movements.now ≡ tables.reading.counts.movements
   pub ends : (j side : ℕ) → j < tables.reading.counts.movements → side < 2
       → (1 ≤ link_in tables.movements.now side j) × (link_in tables.movements.now side j ≤ tables.reading.counts.links)
 

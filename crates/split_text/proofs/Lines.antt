@@ -174,4 +174,4 @@ module _ {tables : NetworkTables} {output : Output} where
   pub movement-ends : MovementsAsked tables output → (j : ℕ) (none : Movement) → j < length tables.movements.now
       → (j < max_movements) × LinksNamed (get_or tables.movements.now j none)
   movement-ends a j none h =
-      (omega (arith, h, tables.sized.movement-size, tables.sized.few.movements), border-ends a.table-asked j none h)
+      (omega (arith, h, a.table-asked.size, a.table-asked.few), border-ends a.table-asked j none h)

@@ -8,7 +8,7 @@ pub numbers_where-requires-2 : goal.numbers_where-requires-2
 numbers_where-requires-2 g c =
     let tables = c.args.tables.now in
     let few = tables.sized.few.movements in
-    let size = tables.sized.movement-size in
+    let size = c.requires.ends.movement-size in
     (omega arith, ((omega (arith, few), omega (arith, few)), λ k l. (λ a b d e f u. omega (arith, few), λ a b d e f u. omega (arith, few, size), λ a b d e f u v w. halves-named c.requires.ends k l)))
 
 pub returns : goal.returns

@@ -10,5 +10,5 @@ pub returns : goal.returns
 returns c =
     let t = c.args.tables.now in
     let half = c.args.half.now in
-    movements-put t.movements.now half t.sized.movement-size
+    movements-put t.movements.now half c.requires.table-asked.size
     (c.put_rows.ensures (movement-rows t.movements.now half) (λ j none changed h p. movement-given t.movements.now half j none h changed (search rules)))
