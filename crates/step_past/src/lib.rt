@@ -22,10 +22,10 @@ pub struct Arrival {
 
 // An `H` line that is read again: its step, its numbers, and the place of the line after it.
 #[derive(Clone, Copy)]
-struct PastLine<'a> {
-    step: usize,
-    fields: &'a [u32],
-    next: usize,
+pub struct PastLine<'a> {
+    pub step: usize,
+    pub fields: &'a [u32],
+    pub next: usize,
 }
 
 impl PastLine<'_> {
