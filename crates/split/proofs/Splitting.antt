@@ -1,5 +1,5 @@
 -- The ways out of the call, by the definitions.
-use Rattle.base_laws.proofs.Kit.{ℕ, ◌/◌, ◌^◌, ◌≤◌, ◌<◌, ◌≡◌, refl, sym, ◌∙◌, Bool, true, false, List, [], arith}
+use Rattle.base_laws.proofs.Kit.{ℕ, ◌/◌, ◌^◌, ◌≤◌, ◌<◌, ◌≡◌, refl, sym, ◌∙◌, Bool, true, false, List, [], length, arith}
 use Rattle.base_search.specs.declared.Refusal.{Refusal}
 use Rattle.base_search.specs.Checks.{refusal, or_else, checked, verdict, Hold, Verdict}
 use Rattle.base_search.proofs.Laws.{or-else-passes, or-else-refused, checked-passes, checked_refused, passes-of-hold, hold-of-passes}
@@ -79,17 +79,17 @@ loaded-passed whole l =
     }
 
 module _ {whole : Whole} (p : Passed whole) where
-  signals-few : (i : ℕ) → i < whole.tables.reading.counts.links → signal_in whole.tables.links.now i ≤ max_signals
+  signals-few : (i : ℕ) → i < length whole.tables.links.now → signal_in whole.tables.links.now i ≤ max_signals
   signals-few i l =
-      let u : i < link_count (whole_network whole) = omega (arith, p.counted.links) in
+      let u : i < link_count (whole_network whole) = omega (arith, p.link-table.size) in
       omega (arith, signal-of-at p.link-table i u, (link-limits (whole_network whole) (valid-network (whole_network whole) p.holds) i u).signal-last, p.counted.signals, p.counted.few.signals)
 
   pub number-asked : HalvesAsked whole.tables
   number-asked = halves-asked (whole_network whole) p.holds whole.tables p.counted p.movement-table
 
   -- ---- `judge_halves`
-  pub parts-asked : PartsAsked whole.tables
-  parts-asked = signals-few
+  pub parts-asked : PartsAsked whole.tables.links.now
+  parts-asked = record { few = omega (arith, p.link-table.size, p.counted.links, p.counted.few.links); signals = signals-few }
 
   pub form-asked : FormAsked whole.signals.now whole.tables.reading.counts
   form-asked =
@@ -110,10 +110,10 @@ module _ {whole : Whole} (p : Passed whole) where
     pub no-split : {r : Refusal} → checked can 40 0 0 ≡ Err r → HalvesJudged whole halves (Err r)
     no-split e set above by = sym (judged-by set above by ∙ or-else-refused _ _ _ e)
 
-    module _ (y : checked can 40 0 0 ≡ Ok tt) {parts : Bool} (s : PartsTold whole.tables halves.first parts) where
+    module _ (y : checked can 40 0 0 ≡ Ok tt) {parts : Bool} (s : PartsTold whole.tables.links.now halves.first parts) where
       then-parts : (set : ℕ) → halves.above ≡ set / 2 ^ link_count (whole_network whole) → HalvesBy (whole_network whole) set halves → verdict (part_checks (whole_network whole) (whole_plan whole) set)
           ≡ or_else (checked parts 41 0 0) (verdict (form_checks (whole_network whole) (whole_plan whole)))
-      then-parts set above by = judged-by set above by ∙ or-else-passes _ _ y ∙ rw (← s (whole_network whole) p.holds p.counted.links p.link-table set by.first) refl
+      then-parts set above by = judged-by set above by ∙ or-else-passes _ _ y ∙ rw (← s (whole_network whole) p.holds p.link-table set by.first) refl
 
       -- 41
       pub no-parts : {r : Refusal} → checked parts 41 0 0 ≡ Err r → HalvesJudged whole halves (Err r)

@@ -89,12 +89,12 @@ fn judge_halves(whole: &Whole, halves: &Halves) -> Result<(), Refusal>
         0,
     )?;
     checked(
-        split_checks::parts_signals(&whole.tables, &halves.first),
+        split_checks::parts_signals(whole.tables.links, &halves.first),
         Reason::SplitSignals,
         0,
         0,
     )?;
-    split_checks::plan_form(whole)
+    split_checks::plan_form(whole.plan, whole.signals, whole.tables.reading.counts)
 }
 
 // Splits a network that has passed: the checks on its halves and on the plan, then the texts.

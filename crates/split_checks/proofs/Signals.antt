@@ -9,7 +9,6 @@ use Rattle.base_laws.proofs.Tests.{every-same}
 use Rattle.model.proofs.Accepted.{valid-network}
 use Rattle.model.proofs.Limits.{link-limits}
 use Rattle.network_tables.specs.declared.Link.{Link}
-use Rattle.network_tables.specs.declared.NetworkTables.{NetworkTables}
 use Rattle.network_tables.specs.Fields.{link_by, signal_in}
 use Rattle.network_tables.proofs.Every.{items-every}
 use Rattle.network_tables.proofs.Tables.{signal-of-at}
@@ -47,9 +46,9 @@ module _ (links : List Link) (half : HalfTables) (room : length links ≤ length
       let all : take (length links) numbered ≡ numbered = take_all (length links) numbered (omega (arith, numbered-size)) in
       rw all at (items-every own numbered none (length links) (omega (arith, numbered-size))) ∙ every-same (length links) _ _ (λ i l. ap own (numbered-at i none l))
 
-pub parts-told : (tables : NetworkTables) (half : HalfTables) {told : Bool} → told ≡ every (length tables.links.now) (own_signal_in tables.links.now half) → PartsTold tables half told
+pub parts-told : (links : List Link) (half : HalfTables) {told : Bool} → told ≡ every (length links) (own_signal_in links half) → PartsTold links half told
 unfolding parts_signals
-parts-told tables half e network holds counted table set h = e ∙ ap (λ n. every n (own_signal_in tables.links.now half)) table.size ∙ every-same (link_count network) _ _ own_is
+parts-told links half e network holds table set h = e ∙ ap (λ n. every n (own_signal_in links half)) table.size ∙ every-same (link_count network) _ _ own_is
   where
     twice : (b : Bool) → b ≡ not (not b)
     twice true = refl
@@ -59,7 +58,7 @@ parts-told tables half e network holds counted table set h = e ∙ ap (λ n. eve
     outside-is i l = let e : not (eqb (get_or half.links i 0) 0) ≡ in_set set i = unfold is_in first_half in half-has-link h i l in twice (eqb (get_or half.links i 0) 0) ∙ ap not e
 
     own_is : (i : ℕ) → i < link_count network
-        → own_signal_in tables.links.now half i ≡ (not (in_set set i) or eqb (signal_of network i) 0 or not (in_second network (in_set set) (signal_of network i - 1)))
+        → own_signal_in links half i ≡ (not (in_set set i) or eqb (signal_of network i) 0 or not (in_second network (in_set set) (signal_of network i - 1)))
     own_is i l = elim (dec_lt 0 (signal_of network i)) [
       | yes u ↦ unfold own_signal_by in rw (outside-is i l, signal-of-at table i l, half-has-signal h (signal_of network i - 1) (omega (arith, (link-limits network (valid-network network holds) i l).signal-last))) (unfold first_half in refl)
       | no u ↦ unfold own_signal_by ◌or◌ in rw (outside-is i l, signal-of-at table i l, eq-eqb (signal_of network i) 0 (omega arith)) (go (not (in_set set i)) _ _)

@@ -6,8 +6,8 @@ use Rattle.text_reader.specs.Reading.{Starts}
 use Rattle.base_laws.specs.Test.{◌and◌, every}
 use Rattle.model.specs.Network.{link_count, movement_count, step_line, demand}
 use Rattle.model.specs.Table.{network_checks}
+use Rattle.network_tables.specs.declared.Link.{Link}
 use Rattle.network_tables.specs.declared.Movement.{Movement}
-use Rattle.network_tables.specs.declared.NetworkTables.{NetworkTables}
 use Rattle.network_tables.specs.Tables.{CountsHold, LinkTable, MovementTable}
 use Rattle.model_split.specs.Halves.{first_half}
 use Rattle.model_split.specs.Call.{in_set, can_split, parts_signals}
@@ -40,8 +40,8 @@ abbrev pub SplitTold : List Line → Halves → Bool → Type 0
 SplitTold network halves told =
     (set : ℕ) → halves.above ≡ set / 2 ^ link_count network → HalvesBy network set halves → told ≡ ltb set (2 ^ link_count network) and can_split network (in_set set)
 
--- 41, of every network that has passed and has these tables
-abbrev pub PartsTold : NetworkTables → HalfTables → Bool → Type 0
-PartsTold tables half told =
-    (network : List Line) → Hold (network_checks network) → tables.reading.counts.links ≡ link_count network → LinkTable network tables.links.now
+-- 41, of every network that has passed and has these links
+abbrev pub PartsTold : List Link → HalfTables → Bool → Type 0
+PartsTold links half told =
+    (network : List Line) → Hold (network_checks network) → LinkTable network links
     → (set : ℕ) → HalfNumbered network (first_half network (in_set set)) half → told ≡ parts_signals network (in_set set)

@@ -1,10 +1,9 @@
 -- What 40 and 41 require of links and movements, by the tables of a network and the numbers of the links in its first half.
-use Rattle.std.specs.Prelude.{ℕ, ◌-◌, ◌≤◌, ◌<◌, Bool, not, List, eqb, get_or}
+use Rattle.std.specs.Prelude.{ℕ, ◌-◌, ◌≤◌, ◌<◌, Bool, not, List, eqb, length, get_or}
 use Rattle.base_laws.specs.Test.{◌and◌, ◌or◌, every}
-use Rattle.model.specs.Network.{max_signals}
+use Rattle.model.specs.Network.{max_links, max_signals}
 use Rattle.network_tables.specs.declared.Link.{Link}
 use Rattle.network_tables.specs.declared.Movement.{Movement}
-use Rattle.network_tables.specs.declared.NetworkTables.{NetworkTables}
 use Rattle.network_tables.specs.Fields.{waiting_at_start_in, exit_rate_in, signal_in, movement_at, link_in}
 use Rattle.split_tables.specs.declared.HalfTables.{HalfTables}
 use Rattle.split_tables.specs.Tables.{is_in, is_border}
@@ -42,6 +41,7 @@ own_signal_by half number signal = eqb number 0 or eqb signal 0 or is_in half.si
 abbrev pub own_signal_in : List Link → HalfTables → ℕ → Bool
 own_signal_in links half i = own_signal_by half (get_or half.links i 0) (signal_in links i)
 
--- the links of a network's tables have each one of the signals or none
-abbrev pub PartsAsked : NetworkTables → Type 0
-PartsAsked tables = (i : ℕ) → i < tables.reading.counts.links → signal_in tables.links.now i ≤ max_signals
+-- few links, each with one of the signals or none
+pub record PartsAsked (links : List Link) : Type 0 where
+  pub few : length links ≤ max_links
+  pub signals : (i : ℕ) → i < length links → signal_in links i ≤ max_signals

@@ -15,7 +15,8 @@ ghost use Rattle.split_checks.specs.Network.{StepsAsked, step_free, SplitAsked, 
 ghost use Rattle.split_checks.specs.Plan.{FormAsked, LineForm, FormTold};
 
 use base_search::{Reason, Refusal, checked};
-use network_tables::{LINE_SIZE, Link, NetworkTables, STEP_SIZE};
+use model::Signal;
+use network_tables::{Counts, LINE_SIZE, Link, NetworkTables, STEP_SIZE};
 use split_tables::{HalfTables, Halves, Whole};
 
 // Whether nobody waits at the entries.
@@ -158,11 +159,11 @@ fn own_signal(half: &HalfTables, number: u32, signal: usize) -> bool
 }
 
 // Whether no signal has links in both halves (41).
-pub fn parts_signals(tables: &NetworkTables, half: &HalfTables) -> bool
-    requires { PartsAsked tables.now }
-    ensures { PartsTold tables.now half.now result }
+pub fn parts_signals(links: &[Link], half: &HalfTables) -> bool
+    requires { PartsAsked links.now }
+    ensures { PartsTold links.now half.now result }
 {
-    tables.links.iter().zip(&half.links).all(|(link, number)| own_signal(
+    links.iter().zip(&half.links).all(|(link, number)| own_signal(
         half,
         *number,
         link.signal as usize,
@@ -170,33 +171,26 @@ pub fn parts_signals(tables: &NetworkTables, half: &HalfTables) -> bool
 }
 
 // The place of the next line, if the `P` line at a place has its form.
-fn line_form(whole: &Whole, at: usize) -> Option<usize>
-    requires { FormAsked whole.now.signals.now whole.now.tables.reading.counts }
-    ensures { LineForm whole.now.plan.now at whole.now.signals.now whole.now.tables.reading.counts result }
+fn line_form(plan: &[u8], at: usize, signals: &[Signal], counts: Counts) -> Option<usize>
+    requires { FormAsked signals.now counts }
+    ensures { LineForm plan.now at signals.now counts result }
 {
     let mut line = [0u32; LINE_SIZE];
-    plan_steps::read_line(
-        whole.plan,
-        at,
-        whole.signals,
-        whole.tables.reading.counts,
-        &mut line,
-    )
+    plan_steps::read_line(plan, at, signals, counts, &mut line)
 }
 
 // The form of all lines of a plan, and nothing after them (9).
-pub fn plan_form(whole: &Whole) -> Result<(), Refusal>
-    requires { FormAsked whole.now.signals.now whole.now.tables.reading.counts }
-    ensures { FormTold whole.now.plan.now whole.now.signals.now whole.now.tables.reading.counts result }
+pub fn plan_form(plan: &[u8], signals: &[Signal], counts: Counts) -> Result<(), Refusal>
+    requires { FormAsked signals.now counts }
+    ensures { FormTold plan.now signals.now counts result }
 {
-    let steps = whole.tables.reading.counts.steps;
     let mut at = 0;
-    for n in 0..steps {
-        let Some(next) = line_form(whole, at) else {
+    for n in 0..counts.steps {
+        let Some(next) = line_form(plan, at, signals, counts) else {
             return Err(Reason::PlanForm.refusal(n + 1, 0));
         };
         at = next;
     }
-    let ended = text_reader::is_end(whole.plan, at);
-    checked(ended, Reason::PlanForm, steps + 1, 0)
+    let ended = text_reader::is_end(plan, at);
+    checked(ended, Reason::PlanForm, counts.steps + 1, 0)
 }
