@@ -5,7 +5,7 @@ ghost use Rattle.cells_call.specs.Call.{volumes_in};
 ghost use Rattle.cases_cells.specs.Reported.{reported_of, reported_bytes};
 
 use base_search::Refusal;
-use cases_files::reading::{Malformed, read_u32, read_u64};
+use cases_files::reading::{Malformed, read_array, read_u32, read_u64};
 use cases_files::refusals::{Columns, read_refusal};
 use cells_call::CellsRun;
 use cells_steps::MAX_CELLS;
@@ -78,12 +78,14 @@ pub fn volumes_in(answer: Result<CellsRun, Refusal>) -> [u32; MAX_CELLS]
 pub fn read_reported<R: Read>(file: &mut R) -> Result<Reported, Malformed>
     ensures { IfOk result (λ reported. Consumes (R.remaining file.old) (R.remaining file.new) (reported_bytes reported)) }
 {
+    let bytes = read_array::<_, 32>(file)?;
+    let mut numbers = bytes.as_slice();
     Ok(Reported {
-        refusal: read_refusal(file)?,
+        refusal: read_refusal(&mut numbers)?,
         flows: Flows {
-            cells: read_u32(file)?,
-            flow_in: read_u64(file)?,
-            flow_out: read_u64(file)?,
+            cells: read_u32(&mut numbers)?,
+            flow_in: read_u64(&mut numbers)?,
+            flow_out: read_u64(&mut numbers)?,
         },
     })
 }

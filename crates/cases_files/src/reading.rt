@@ -17,7 +17,8 @@ impl From<io::Error> for Malformed {
     }
 }
 
-// The next bytes, as many as the array has.
+// The next bytes, as many as the array has. Each read of a file is a call of the system, so numbers
+// side by side are read as one array, and then one by one from its slice, which is a reader too.
 pub fn read_array<R: Read, const N: usize>(file: &mut R) -> Result<[u8; N], Malformed>
     ensures { IfOk result (λ bytes. Consumes (R.remaining file.old) (R.remaining file.new) bytes) }
 {

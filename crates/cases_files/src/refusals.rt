@@ -3,7 +3,7 @@ ghost use Rattle.std.specs.Prelude.{◌≡◌, IfOk};
 ghost use Rattle.std.specs.Io.KnownBytes.{Consumes};
 ghost use Rattle.cases_files.specs.Refusals.{stored_bytes};
 
-use crate::reading::{Malformed, read_u32};
+use crate::reading::{Malformed, read_array, read_u32};
 use base_search::Refusal;
 use std::fmt;
 use std::fmt::Display;
@@ -20,10 +20,12 @@ const NOTHING: Refusal = Refusal {
 pub fn read_refusal<R: Read>(file: &mut R) -> Result<Option<Refusal>, Malformed>
     ensures { IfOk result (λ stored. Consumes (R.remaining file.old) (R.remaining file.new) (stored_bytes stored)) }
 {
+    let bytes = read_array::<_, 12>(file)?;
+    let mut numbers = bytes.as_slice();
     let stored = Refusal {
-        number: read_u32(file)?,
-        line: read_u32(file)?,
-        item: read_u32(file)?,
+        number: read_u32(&mut numbers)?,
+        line: read_u32(&mut numbers)?,
+        item: read_u32(&mut numbers)?,
     };
     if stored == NOTHING {
         Ok(None)

@@ -6,7 +6,7 @@ ghost use Rattle.cases_plan.specs.Stored.{filled_bytes, asked_bytes, second_byte
 use crate::answers::Question;
 use crate::call::Call;
 use crate::outcome::Outcome;
-use cases_files::reading::{Malformed, read_text, read_u32, read_u64};
+use cases_files::reading::{Malformed, read_array, read_text, read_u32, read_u64};
 use std::fmt;
 use std::fmt::Display;
 use std::io::Read;
@@ -64,20 +64,24 @@ pub fn read_bytes<R: Read>(file: &mut R, text: &mut [u8]) -> Result<(), Malforme
 pub fn read_filled<R: Read>(file: &mut R) -> Result<Filled, Malformed>
     ensures { IfOk result (λ filled. Consumes (R.remaining file.old) (R.remaining file.new) (filled_bytes filled)) }
 {
+    let bytes = read_array::<_, 8>(file)?;
+    let mut numbers = bytes.as_slice();
     Ok(Filled {
-        length: read_u32(file)? as usize,
-        fill: read_u32(file)?,
+        length: read_u32(&mut numbers)? as usize,
+        fill: read_u32(&mut numbers)?,
     })
 }
 
 pub fn read_asked<R: Read>(file: &mut R) -> Result<Asked, Malformed>
     ensures { IfOk result (λ asked. Consumes (R.remaining file.old) (R.remaining file.new) (asked_bytes asked)) }
 {
+    let bytes = read_array::<_, 28>(file)?;
+    let mut numbers = bytes.as_slice();
     Ok(Asked {
-        buffer: read_filled(file)?,
-        call: Call::try_from(read_u32(file)?)?,
-        boundary: read_u64(file)?,
-        link: read_u64(file)?,
+        buffer: read_filled(&mut numbers)?,
+        call: Call::try_from(read_u32(&mut numbers)?)?,
+        boundary: read_u64(&mut numbers)?,
+        link: read_u64(&mut numbers)?,
     })
 }
 
@@ -109,14 +113,16 @@ pub fn read_second_filled<R: Read>(file: &mut R, call: Call) -> Result<Filled, M
 pub fn read_reported<R: Read>(file: &mut R) -> Result<Reported, Malformed>
     ensures { IfOk result (λ reported. Consumes (R.remaining file.old) (R.remaining file.new) (reported_bytes reported)) }
 {
+    let bytes = read_array::<_, 44>(file)?;
+    let mut numbers = bytes.as_slice();
     Ok(Reported {
         outcome: Outcome {
-            kind: read_u32(file)?,
-            first: read_u64(file)?,
-            second: read_u64(file)?,
-            third: read_u64(file)?,
-            fourth: read_u64(file)?,
+            kind: read_u32(&mut numbers)?,
+            first: read_u64(&mut numbers)?,
+            second: read_u64(&mut numbers)?,
+            third: read_u64(&mut numbers)?,
+            fourth: read_u64(&mut numbers)?,
         },
-        checksum: read_u64(file)?,
+        checksum: read_u64(&mut numbers)?,
     })
 }

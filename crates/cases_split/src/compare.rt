@@ -29,6 +29,16 @@ struct Case<'a> {
     told: Buffers<'a>,
 }
 
+// The numbers between the texts of a case: the set of links, the lengths of the four buffers and
+// the byte that they hold before the call, and the stored refusal.
+#[derive(Clone, Copy)]
+struct Head {
+    first_half: u32,
+    lengths: Lengths,
+    rest: u8,
+    refusal: Option<Refusal>,
+}
+
 // Which counter a refusal has, or a split that was written. Not `tally::place_of`: the network's own refusals share one
 // counter.
 fn place_of(refusal: Option<Refusal>) -> usize {
@@ -110,6 +120,18 @@ fn judge_filled(
     ))
 }
 
+// Reads the numbers by one read; three bytes behind the one that fills the buffers are skipped.
+fn read_head(file: &mut impl Read) -> Result<Head, Malformed> {
+    let bytes = read_array::<_, 36>(file)?;
+    let mut numbers = bytes.as_slice();
+    Ok(Head {
+        first_half: read_u32(&mut numbers)?,
+        lengths: told::read_lengths(&mut numbers)?,
+        rest: read_array::<_, 4>(&mut numbers)?[0],
+        refusal: read_refusal(&mut numbers)?,
+    })
+}
+
 // Reads and judges one case; returns where it is counted.
 pub fn run_case(rt: &impl Print, file: &mut impl Read, number: u32) -> Result<usize, Malformed> {
     let mut network = [0; ROOM];
@@ -118,10 +140,8 @@ pub fn run_case(rt: &impl Print, file: &mut impl Read, number: u32) -> Result<us
         network: read_text(file, &mut network)?,
         plan: read_text(file, &mut plan)?,
     };
-    let first_half = read_u32(file)?;
-    let lengths = told::read_lengths(file)?;
-    let rest = read_array::<_, 4>(file)?[0];
-    let refusal = read_refusal(file)?;
+    let head = read_head(file)?;
+    let Head { rest, refusal, .. } = head;
     let mut network_1 = [rest; ROOM];
     let mut plan_1 = [rest; ROOM];
     let mut network_2 = [rest; ROOM];
@@ -136,7 +156,7 @@ pub fn run_case(rt: &impl Print, file: &mut impl Read, number: u32) -> Result<us
         whole,
         stored: Stored {
             number,
-            first_half,
+            first_half: head.first_half,
             refusal,
             lengths: written,
         },
@@ -147,6 +167,6 @@ pub fn run_case(rt: &impl Print, file: &mut impl Read, number: u32) -> Result<us
             plan_2: &plan_2,
         },
     };
-    let same = judge_filled(rt, case, lengths, rest)?;
+    let same = judge_filled(rt, case, head.lengths, rest)?;
     Ok(if same { place_of(refusal) } else { DIFFERENT })
 }

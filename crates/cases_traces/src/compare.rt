@@ -6,7 +6,7 @@ ghost use Rattle.cases_traces.specs.Compare.{as_stored};
 use crate::values;
 use base_search::{Reason, Refusal};
 use cases_files::agreement::agrees;
-use cases_files::reading::{Malformed, read_u32};
+use cases_files::reading::{Malformed, read_array, read_u32};
 use cases_files::refusals::Columns;
 use cases_files::{refusals, tally};
 use std::io::Read;
@@ -50,11 +50,13 @@ pub fn run_case(rt: &impl Print, file: &mut impl Read, number: u32) -> Result<us
     let mut advances = [0.0; ROOM];
     let mut red_lines = [0.0; ROOM];
     let mut told = [0.0; ROOM];
-    let vehicles = read_u32(file)?;
     // The form has all counts before the values.
-    let advances_count = read_u32(file)?;
-    let lines_count = read_u32(file)?;
-    let spacing = values::read_value(file)?;
+    let bytes = read_array::<_, 20>(file)?;
+    let mut head = bytes.as_slice();
+    let vehicles = read_u32(&mut head)?;
+    let advances_count = read_u32(&mut head)?;
+    let lines_count = read_u32(&mut head)?;
+    let spacing = values::read_value(&mut head)?;
     let places = values::read_values(file, &mut places, vehicles)?;
     let advances = values::read_values(file, &mut advances, advances_count)?;
     let red_lines = values::read_values(file, &mut red_lines, lines_count)?;
