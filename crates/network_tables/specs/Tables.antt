@@ -56,7 +56,8 @@ pub record SignalTable (network : List Line) (signals : List Signal) : Type 0 wh
   pub size : length signals ≡ max_signals
   pub holds : (r : ℕ) → r < signal_count network → signal_at signals r ≡ signal network r
 
--- the counts of a network are few, and its table of links has one for each: what reads movements or times says itself how many there are
+-- the counts of a network are few, and its table of links has one for each: what reads movements or
+-- times says itself how many there are
 pub record TablesSized (reading : Reading) (links : List Link) : Type 0 where
   pub few : Few reading.counts
   pub link-size : length links ≡ reading.counts.links

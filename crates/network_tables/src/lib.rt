@@ -208,9 +208,10 @@ impl Reading {
     }
 }
 
-// A network's text and the tables that are read from it, without its signals, which change from step to step. All
-// tables are lent; those of links and movements are cut to as many as the network has. The type says so of the links
-// alone, so that a function that reads no movement or time asks nothing of their tables.
+// A network's text and the tables that are read from it, without its signals, which change from
+// step to step. All tables are lent; those of links and movements are cut to as many as the network
+// has. The type says so of the links alone, so that a function that reads no movement or time asks
+// nothing of their tables.
 #[derive(Clone, Copy)]
 pub struct NetworkTables<'a> {
     pub text: &'a [u8],

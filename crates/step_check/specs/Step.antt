@@ -70,15 +70,15 @@ rules_in step previous row = map (rule_in step previous row) rules
 abbrev pub step_rules_in : Step → List ℕ → List ℕ → List checks.Rule
 step_rules_in step previous row = rules_in step previous (made_row step previous row)
 
--- what a rule reads: the limits, tables that are limited, and the sums of 16 to 18 the rows, only once
--- the row after the step is formed
+-- what a rule reads: the limits, tables that are limited, and the sums of 16 to 18 the rows, only
+-- once the row after the step is formed
 pub record RuleRows (step : Step) (previous row : List ℕ) (rule : Rule) : Type 0 where
   pub limited : Limited step
   pub sum-rows : (sum : SumRule) → rule ≡ Sum sum → SumRows step previous row
 
--- what the judgement of a step requires, by the row before it and a row that is lent: the ledger has
--- rows up to that before the step; and once the limits of the volumes are kept, the rows have their
--- sizes, the sums fit, and the tables of what has arrived are there
+-- what the judgement of a step requires, by the row before it and a row that is lent: the ledger
+-- has the rows before that at which the step begins; and once the limits of the volumes are kept,
+-- the rows have their sizes, the sums fit, and the tables of what has arrived are there
 pub record JudgeAsked (step : Step) (previous row : List ℕ) : Type 0 where
   pub limited : Limited step
   pub before : 2 * step.boundary * step.counts.links ≤ length step.ledger.now

@@ -123,10 +123,10 @@ fn first_break(step: &Step, previous: &[u32], row: &mut [u32]) -> Result<(), Ref
     found
 }
 
-// Whether the step keeps every rule: first the signals, then the limits of links and movements, by which the row after it is formed, then the sums of that row.
-// The row is formed while the limits are tested, and the caller owes the rows' sizes only where these
-// are kept. So they are compared first: where they differ, the search finds what is broken, which
-// forms no row before.
+// Whether the step keeps every rule: first the signals, then the limits of links and movements, by
+// which the row after it is formed, then the sums of that row. The caller owes the rows' sizes only
+// where the limits are kept, and the row is formed while these are tested. So the sizes are
+// compared first: where they differ, the search finds what is broken, which forms no row before.
 fn keeps_rules(step: &Step, previous: &[u32], row: &mut [u32]) -> bool
     requires { JudgeAsked step.now previous.now row.old }
     ensures { PassGot step.now previous.now row.old result row.new }

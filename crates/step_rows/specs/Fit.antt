@@ -10,8 +10,9 @@ use Rattle.network_tables.specs.Fields.{step_size, line_size, length_in}
 use Rattle.step_signals.specs.Rules.{SignalTables}
 use Rattle.step_rows.specs.Rows.{Named}
 
--- the counts are few, the tables have their sizes, and movements name links; what the limits and
--- the sums ask beside this is in records of its own, `Limited` and `ArrivalTables` of Step
+-- the counts are few, the tables have their sizes, movements name links, and the step begins before
+-- the last boundary; what the limits and the sums ask beside this is in records of its own,
+-- `Limited` and `ArrivalTables` of Step
 pub record StepFit (counts : Counts) (links : List Link) (movements : List Movement)
     (signals : List Signal) (plan_line step_line phases asked : List ℕ) (boundary : ℕ) : Type 0 where
   pub few : Few counts

@@ -17,8 +17,8 @@ pub record Limited (step : Step) : Type 0 where
   pub exit-limit : (i : ℕ) → i < step.counts.links → exit_rate_in step.links.now i ≤ 10_000
   pub rate-limit : (j : ℕ) → j < step.counts.movements → rate_in step.movements.now j ≤ 10_000
 
--- what the sums ask, which find what has arrived: the ledger has the rows up to the boundary at which
--- the step begins, and each travel time before the next boundary ends in a step before that
+-- what the sums ask, which find what has arrived: the ledger has the rows up to the boundary at
+-- which the step begins, and each travel time before the next boundary ends in a step before that
 pub record ArrivalTables (step : Step) : Type 0 where
   pub rows : 2 * (step.boundary + 1) * step.counts.links ≤ length step.ledger.now
   pub rising : Rising step.times.now (step.counts.past + (step.boundary + 1))

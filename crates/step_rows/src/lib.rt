@@ -17,8 +17,11 @@ use model::Signal;
 use network_tables::{Counts, Link, Movement, admitted, entered, left, let_out, moved};
 use step_past::Arrival;
 
-// What a step of a plan is judged by; all tables are lent. `plan_line` has the numbers of its `P` line, `step_line` those of its `S` line, with who waits in each
-// link's demand; `phases` are those that it shows, `asked` those that trams ask; the ledger has the rows up to `boundary`, at which the step begins.
+// What a step of a plan is judged by; all tables are lent. `plan_line` has the numbers of its `P`
+// line, `step_line` those of its `S` line, with who waits in each link's demand; `phases` are those
+// that it shows, `asked` those that trams ask. The step begins at `boundary`: the sums read the
+// ledger's rows up to it. The type says neither that these are there nor that rates are limited,
+// since a step that breaks a limit needs no such rows: `ArrivalTables` and `Limited` do.
 #[derive(Clone, Copy)]
 pub struct Step<'a> {
     pub counts: Counts,
