@@ -22,11 +22,11 @@ use Rattle.step_past.specs.declared.Arrival.{Arrival}
 use Rattle.step_past.specs.Curves.{ArrivalTable, NextAsked as PastNextAsked, NextGot as PastNextGot}
 use Rattle.step_past.proofs.Valid.{past-form, past_fits}
 use Rattle.step_rows.specs.declared.Step.{Step}
-use Rattle.step_rows.specs.Fit.{StepFit}
+use Rattle.step_rows.specs.Fit.{StepTables, StepFit}
 use Rattle.step_rows.specs.Rows.{RowHolds}
 use Rattle.step_rows.specs.Step.{StepHolds}
 use Rattle.step_rows.specs.Waiting.{AddAsked, Offers, StepOffers, Waits, WaitingTable}
-use Rattle.step_rows.proofs.Fit.{step-fit, limited, arrival-tables}
+use Rattle.step_rows.proofs.Fit.{step-tables, step-fit, limited, arrival-tables}
 use Rattle.step_rows.proofs.Texts.{movements-named, next-row-fits, next-row-holds, next-row-front}
 use Rattle.step_rows.proofs.Cuts.{offers-cut}
 use Rattle.step_rows.proofs.Ledger.{part-holds, next-written}
@@ -151,10 +151,15 @@ module _ {run : Run} {state : State} {signals : List Signal} {arrivals : List Ar
                 ∙ rw (at_next, travel-time-at asked.tables.link-table i l) (arrival-is asked.tables.time-table (suc n) i asked.more);
           }
 
-      pub fit : StepFit counts tables.links.now tables.movements.now signals said.plan said.step said.phases said.asked n
-      fit =
-          step-fit asked.tables.holds counted asked.tables.link-table asked.tables.movement-table
+      pub tables-fit : StepTables counts tables.links.now tables.movements.now signals said.plan said.step said.phases said.asked n
+      tables-fit =
+          step-tables asked.tables.holds counted asked.tables.link-table asked.tables.movement-table
           asked.state-at.signals-at read.plan-numbers offers read.shown read.asked asked.more
+
+      pub fit : StepFit counts tables.links.now tables.movements.now tables.times.now signals said.plan said.step said.phases said.asked ledger arrivals' n
+      fit =
+          step-fit asked.tables.holds counted asked.tables.link-table asked.tables.movement-table asked.tables.time-table asked.state-at.signals-at read.plan-numbers offers read.shown read.asked arrivals-at asked.more
+          (omega (arith, asked.room))
 
       module _ {step : Step} (is : Judging tables n signals said ledger arrivals' step) where
         at : StepHolds network_text pln n step
@@ -207,7 +212,7 @@ module _ {run : Run} {state : State} {signals : List Signal} {arrivals : List Ar
           judge-asked =
               record {
                 limited = limited asked.tables.holds at;
-                before = rw (at.counted.links, at.begins) (omega (arith, room));
+                before = rw (is.counts, is.ledger-is, is.boundary) (omega (arith, fit.rows));
                 fits = λ kept.
                     next-row-fits at.counted at.numbers at.movement-table before (movements-named at.counted at.movement-table valid) previous-size row-size
                     (entered-word net pln asked.tables.holds (suc n) asked.more (keeps kept)) (left_word net pln asked.tables.holds (suc n) asked.more (keeps kept));

@@ -9,7 +9,7 @@ ghost use Rattle.std.specs.Prelude.{sum as list_sum};
 ghost use Rattle.base_laws.specs.Sum.{sum};
 ghost use Rattle.network_tables.specs.Places.{Few};
 ghost use Rattle.network_tables.specs.Fields.{line_size, link_in, admitted_in, let_out_in, entered_in, left_in};
-ghost use Rattle.step_rows.specs.Fit.{StepFit};
+ghost use Rattle.step_rows.specs.Fit.{StepTables};
 ghost use Rattle.step_rows.specs.Rows.{pairs, base_entered, base_left, next_row, with_link, add_at, with_movement, BeginAsked, Base, Fits, Added, Room};
 ghost use Rattle.step_rows.specs.Waiting.{FirstAsked, FirstWaits, AddAsked, Offers, WaitsAsked, Waits};
 
@@ -36,7 +36,7 @@ pub struct Step<'a> {
     pub ledger: &'a [u32],
     pub arrivals: &'a [Arrival],
     pub boundary: usize,
-    ghost fit: { StepFit counts links.now movements.now signals.now plan_line.now step_line.now phases.now asked.now boundary },
+    ghost fit: { StepTables counts links.now movements.now signals.now plan_line.now step_line.now phases.now asked.now boundary },
 }
 
 impl Step<'_> {

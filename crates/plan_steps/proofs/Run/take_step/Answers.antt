@@ -2,7 +2,7 @@
 use Rattle.std.proofs.Common.{rules}
 use Rattle.base_laws.proofs.Kit.{refl}
 use Rattle.base_search.proofs.Laws.{passed_on}
-use Rattle.plan_steps.proofs.Taking.{read-asked, step-malformed, arrivals-asked, add-asked, fit, judge-asked, step-refused, next-asked, step-passed}
+use Rattle.plan_steps.proofs.Taking.{read-asked, step-malformed, arrivals-asked, add-asked, tables-fit, judge-asked, step-refused, next-asked, step-passed}
 use Rattle.plan_steps.proofs.Run.take_step.Goals as goal
 
 pub read_lines-requires : goal.read_lines-requires
@@ -18,7 +18,7 @@ pub next_arrivals-requires : goal.next_arrivals-requires
 next_arrivals-requires c = arrivals-asked c.requires
 
 pub invariant_of-step : goal.invariant_of-step
-invariant_of-step c = record { fit = fit c.requires c.read_lines.ensures c.in-Some.is c.add_waiting.ensures c.next_arrivals.ensures }
+invariant_of-step c = record { fit = tables-fit c.requires c.read_lines.ensures c.in-Some.is c.add_waiting.ensures c.next_arrivals.ensures }
 
 pub judge_step-requires : goal.judge_step-requires
 judge_step-requires c = judge-asked c.requires c.read_lines.ensures c.in-Some.is c.add_waiting.ensures c.next_arrivals.ensures (search rules) refl
