@@ -22,8 +22,8 @@ use Rattle.network_tables.specs.declared.NetworkTables.{NetworkTables}
 use Rattle.network_tables.specs.Places.{Few}
 use Rattle.network_tables.specs.declared.Tram.{Tram}
 use Rattle.network_tables.specs.Fields.{past_size, entered_at, left_at}
-use Rattle.network_tables.specs.Tables.{TramTable}
-use Rattle.network_tables.proofs.Tables.{capacity-at, travel-time-at, exit-rate-at, signal-of-at, phase-mask-at, standing-at, from-link-at, to-link-at, rate-at, share-at}
+use Rattle.network_tables.specs.Tables.{TablesSized, TramTable}
+use Rattle.network_tables.proofs.Tables.{tables-sized, capacity-at, travel-time-at, exit-rate-at, signal-of-at, phase-mask-at, standing-at, from-link-at, to-link-at, rate-at, share-at}
 use Rattle.model_text.specs.NetworkText.{count_numbers, network_text}
 use Rattle.model_text.proofs.Formed.{Formed, formed-of-holds}
 use Rattle.model_carry.specs.Part.{clipped, signal_numbers, link_numbers, movement_numbers, past_numbers, step_numbers, part, carried_text}
@@ -182,7 +182,10 @@ module _ {tables : NetworkTables} {st : Standing} (a : CarryAsked tables st) {tr
   few = a.loaded.counted.few
 
   movement-size : length tables.movements.now ≡ C.movements
-  movement-size = a.loaded.movement-table.size ∙ sym a.loaded.counted.movements
+  movement-size =
+      let sized : TablesSized tables.reading tables.links.now tables.movements.now tables.times.now =
+      tables-sized a.loaded.counted a.loaded.link-table a.loaded.movement-table a.loaded.time-table in
+      sized.movement-size
 
   module _ {t₁ : List ℕ} {o₀ o₁ : Output} (start : o₀.at ≡ 0) (p₁ : Put 1 t₁ o₀ o₁) where
     pub trams-early : Early (length trams) o₁

@@ -1,12 +1,25 @@
--- What stands at a place of the program's tables, by its name in the paper.
-use Rattle.base_laws.proofs.Kit.{ℕ, ◌+◌, ◌*◌, ◌<◌, ◌≡◌, ap, List, arith, get_or}
+-- What stands at a place of the program's tables, by its name in the paper, and their sizes.
+use Rattle.base_laws.proofs.Kit.{ℕ, ◌+◌, ◌*◌, ◌<◌, ◌≡◌, sym, ap, ◌∙◌, List, arith, get_or}
 use Rattle.text_reader.specs.Lines.{Line}
 use Rattle.model.specs.Network.{link_count, signal_count, movement_count, capacity, travel_time, exit_rate, signal_of, phase_mask, standing, waiting_at_start, from_link, to_link, rate, share, step_line, timeline_length, past_entries, past_exits, step_length, demand}
 use Rattle.model.specs.Flows.{shown_mask, admitted, let_out, moved}
 use Rattle.network_tables.specs.Fields.{capacity_in, travel_time_in, exit_rate_in, signal_in, phase_mask_in, standing_in, waiting_at_start_in, link_in, rate_in, share_in, past_entries_in, past_exits_in, length_in, demand_in}
 use Rattle.network_tables.specs.declared.Link.{Link}
 use Rattle.network_tables.specs.declared.Movement.{Movement}
-use Rattle.network_tables.specs.Tables.{LinkTable, MovementTable, PastNumbers, StepNumbers, PlanNumbers}
+use Rattle.network_tables.specs.declared.Reading.{Reading}
+use Rattle.network_tables.specs.Tables.{CountsHold, TablesSized, LinkTable, MovementTable, TimeTable, PastNumbers, StepNumbers, PlanNumbers}
+
+-- the tables of a network have their sizes
+pub tables-sized : {network : List Line} {reading : Reading} {links : List Link} {movements : List Movement}
+    {times : List ℕ} → CountsHold network reading.counts → LinkTable network links
+    → MovementTable network movements → TimeTable network times → TablesSized reading links movements times
+tables-sized counted link-table movement-table time-table =
+    record {
+      few = counted.few;
+      link-size = link-table.size ∙ sym counted.links;
+      movement-size = movement-table.size ∙ sym counted.movements;
+      time-size = time-table.size;
+    }
 
 module _ {network : List Line} {links : List Link} (t : LinkTable network links) (i : ℕ) (h : i < link_count network) where
   pub capacity-at : capacity_in links i ≡ capacity network i

@@ -58,9 +58,16 @@ pub record SignalTable (network : List Line) (signals : List Signal) : Type 0 wh
 
 -- the counts of a network are few, and its table of links has one for each: what reads movements or
 -- times says itself how many there are
-pub record TablesSized (reading : Reading) (links : List Link) : Type 0 where
+pub record LinksSized (reading : Reading) (links : List Link) : Type 0 where
   pub few : Few reading.counts
   pub link-size : length links ≡ reading.counts.links
+
+-- the tables of a network have a link and a movement for each that it has, and its counts are few
+pub record TablesSized (reading : Reading) (links : List Link) (movements : List Movement) (times : List ℕ) : Type 0 where
+  pub few : Few reading.counts
+  pub link-size : length links ≡ reading.counts.links
+  pub movement-size : length movements ≡ reading.counts.movements
+  pub time-size : length times ≡ time_table_size
 
 -- no signal has more than 8 phases
 pub record FewPhases (network : List Line) (signals : List Signal) : Type 0 where

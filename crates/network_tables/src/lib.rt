@@ -12,7 +12,7 @@ ghost use Rattle.text_reader.specs.Reading.{Starts};
 ghost use Rattle.network_tables.specs.Rows.{RowRead, ReadAgain, HeadRead};
 ghost use Rattle.network_tables.specs.Blocks.{Block, Judges, RowsJudged, RowsHeld};
 ghost use Rattle.network_tables.specs.Sums.{Summed, EachFits, EachAdded};
-ghost use Rattle.network_tables.specs.Tables.{moved_to, TablesSized};
+ghost use Rattle.network_tables.specs.Tables.{moved_to, LinksSized};
 
 use base_search::{Reason, Refusal};
 
@@ -219,7 +219,7 @@ pub struct NetworkTables<'a> {
     pub links: &'a [Link],
     pub movements: &'a [Movement],
     pub times: &'a [u32],
-    ghost sized: { TablesSized reading links.now },
+    ghost sized: { LinksSized reading links.now },
 }
 
 // The places of lines in a network text, from 0, and how many numbers an `H`, an `S` and a `P` line have.
