@@ -1,12 +1,14 @@
-// Refusals, and checks in order: the verdict is the refusal of the first check that is broken. The definition is in
-// specs/, its laws are in proofs/: by them the calls and the labelled search of step_check are proved.
+// Refusals, and checks in order: the verdict is the refusal of the first check that is broken. The
+// definition is in specs/, its laws are in proofs/: by them the calls and the labelled search of
+// step_check are proved.
 #![tactic(auto)]
 
 ghost use Rattle.std.specs.Prelude.{◌≡◌, ◌<◌};
 ghost use Rattle.base_search.specs.Checks.{refusal, checked};
 ghost use Rattle.base_search.specs.Reasons.{reason_number};
 
-// Why something is refused: the check that is broken. The rules of a step have enums of their own, in their crates.
+// Why something is refused: the check that is broken. The rules of a step have enums of their own,
+// in their crates.
 #[derive(Clone, Copy, PartialEq, Eq)]
 pub enum Reason {
     NetworkForm,
@@ -40,8 +42,8 @@ pub enum Reason {
 }
 
 impl Reason {
-    // The number in answers. A `match`, not discriminants: with these, the wrong program that gives two reasons one
-    // number would not compile, and so would test no proof.
+    // The number in answers. A `match`, not discriminants: with these, the wrong program that gives
+    // two reasons one number would not compile, and so would test no proof.
     pub fn number(self) -> u32
         ensures { result ≡ reason_number self }
     {
@@ -86,10 +88,10 @@ impl Reason {
     }
 }
 
-// A refusal: the number of the broken check, and the line and the item that it names, 0 for none. Line and item come
-// from places in tables and have 32 bits in answers: `new` requires that they fit. The number is not a `Reason`: C
-// callers and stored cases read a number, and the rules of a step, whose enums are in crates that use this one, have
-// numbers too.
+// A refusal: the number of the broken check, and the line and the item that it names, 0 for none.
+// Line and item come from places in tables and have 32 bits in answers: `new` requires that they
+// fit. The number is not a `Reason`: C callers and stored cases read a number, and the rules of a
+// step, whose enums are in crates that use this one, have numbers too.
 #[derive(Clone, Copy, PartialEq, Eq)]
 pub struct Refusal {
     pub number: u32,

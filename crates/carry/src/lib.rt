@@ -1,5 +1,5 @@
-// Carrying on from a boundary (T-09): the call `carry_on`. The text is written twice: first where there is no room,
-// which measures it, then into the buffer if it fits.
+// Carrying on from a boundary (T-09): the call `carry_on`. The text is written twice: first where
+// there is no room, which measures it, then into the buffer if it fits.
 #![tactic(auto)]
 
 ghost use Rattle.std.specs.Prelude.{◌≡◌, ◌∷◌, ◌<◌, ◌≤◌, length, get_or, map, option_to_list};
@@ -32,7 +32,8 @@ use network_tables::{
 };
 use network_writer::{Output, count_rows};
 
-// How a network stands at a boundary of a plan: its signals, the vehicles that wait, and the ledger's rows up to there. All are lent.
+// How a network stands at a boundary of a plan: its signals, the vehicles that wait, and the
+// ledger's rows up to there. All are lent.
 #[derive(Clone, Copy)]
 struct Standing<'a> {
     pub boundary: usize,
@@ -41,8 +42,8 @@ struct Standing<'a> {
     pub ledger: &'a [u32],
 }
 
-// Lines of a network that have passed: where the first starts, their letter, how many numbers each has, and how many
-// lines there are.
+// Lines of a network that have passed: where the first starts, their letter, how many numbers each
+// has, and how many lines there are.
 #[derive(Clone, Copy)]
 struct PassedLines {
     at: usize,
@@ -67,8 +68,8 @@ impl PassedLines {
     }
 }
 
-// The numbers of the `N` line. Not a `From`: that can have no precondition, and the casts need one on the counts. Each
-// count fits 32 bits, so no cast loses anything.
+// The numbers of the `N` line. Not a `From`: that can have no precondition, and the casts need one
+// on the counts. Each count fits 32 bits, so no cast loses anything.
 #[tactic(auto, unfolding(crate::specs::Rows::count_row))]
 fn count_row(counts: Counts, boundary: usize, trams: usize) -> [u32; COUNT_FIELDS]
     requires { Few counts × (boundary ≤ counts.steps) × (trams ≤ max_trams) }
@@ -84,7 +85,8 @@ fn count_row(counts: Counts, boundary: usize, trams: usize) -> [u32; COUNT_FIELD
     ]
 }
 
-// What is left of a tram after a boundary, with its steps counted from there; none if all its steps are over.
+// What is left of a tram after a boundary, with its steps counted from there; none if all its steps
+// are over.
 fn rest_of(tram: Tram, boundary: u32) -> Option<Tram>
     ensures { map tram_row (option_to_list result) ≡ left_of boundary tram }
 {
@@ -98,8 +100,8 @@ fn rest_of(tram: Tram, boundary: u32) -> Option<Tram>
     })
 }
 
-// Puts the `G` lines of signals; how long a line is depends on the signal's phases. split_text has the same loop: a
-// method of `Output` would need a contract longer than the loop.
+// Puts the `G` lines of signals; how long a line is depends on the signal's phases. split_text has
+// the same loop: a method of `Output` would need a contract longer than the loop.
 fn put_signals(signals: &[Signal], output: &mut Output)
     requires { SignalsAsked signals.now output.old }
     ensures { Put (length signals.now) (record_texts letter_g (length signals.now) (λ k. signal_numbers (signal_at signals.now k))) output.old output.new }
@@ -110,8 +112,9 @@ fn put_signals(signals: &[Signal], output: &mut Output)
     }
 }
 
-// Fills a row, after the step's length, with what entered and what left each link in step n: the ledger's row after the
-// step minus the row before it. By index: each turn reads two rows and writes two places.
+// Fills a row, after the step's length, with what entered and what left each link in step n: the
+// ledger's row after the step minus the row before it. By index: each turn reads two rows and
+// writes two places.
 fn fill_volumes(ledger: &[u32], links: usize, n: usize, row: &mut [u32])
     requires { VolumesAsked ledger.now links n row.old }
     ensures { row.new ≡ over (get_or row.old 0 0 ∷ joined links (volumes_in ledger.now links n)) row.old }
@@ -124,8 +127,8 @@ fn fill_volumes(ledger: &[u32], links: usize, n: usize, row: &mut [u32])
     }
 }
 
-// Puts the steps before the boundary as `H` lines: their lengths are in their `S` lines, their volumes in the ledger.
-// Returns where the next `S` line starts.
+// Puts the steps before the boundary as `H` lines: their lengths are in their `S` lines, their
+// volumes in the ledger. Returns where the next `S` line starts.
 fn put_steps(tables: &NetworkTables, standing: &Standing, output: &mut Output) -> usize
     requires { StepsPutAsked tables.now standing.now output.old }
     ensures { StepsPut tables.now standing.now output.old result output.new }
@@ -141,7 +144,8 @@ fn put_steps(tables: &NetworkTables, standing: &Standing, output: &mut Output) -
     line
 }
 
-// Writes the whole text at the beginning of a buffer, line by line as far as it fits, and returns its length.
+// Writes the whole text at the beginning of a buffer, line by line as far as it fits, and returns
+// its length.
 fn put_network(tables: &NetworkTables, trams: &[Tram], standing: &Standing, out: &mut [u8]) -> usize
     requires carry_asked { CarryAsked tables.now standing.now }
     requires tram_table { TramTable (lines tables.now.text.now) trams.now }
@@ -180,8 +184,8 @@ fn put_network(tables: &NetworkTables, trams: &[Tram], standing: &Standing, out:
     output.at
 }
 
-// Writes the network text from a boundary on, when the steps before it have passed. Refusal 32 if the buffer is too
-// short, which is then unchanged.
+// Writes the network text from a boundary on, when the steps before it have passed. Refusal 32 if
+// the buffer is too short, which is then unchanged.
 fn write_carried(
     tables: &NetworkTables,
     standing: &Standing,
@@ -196,9 +200,9 @@ fn write_carried(
     network_writer::write_measured(Reason::CarriedRoom, carried, put)
 }
 
-// Takes the plan's steps up to the boundary, and writes the text from there on. Refusals: 9 if another line follows,
-// and 32 last. A function of its own: inside `carry_from`, each of the four facts after `take_steps` would prove again
-// what `StepsAsked` says once.
+// Takes the plan's steps up to the boundary, and writes the text from there on. Refusals: 9 if
+// another line follows, and 32 last. A function of its own: inside `carry_from`, each of the four
+// facts after `take_steps` would prove again what `StepsAsked` says once.
 fn carry_steps(
     tables: &NetworkTables,
     boundary: usize,
@@ -223,7 +227,8 @@ fn carry_steps(
     write_carried(tables, &standing, carried)
 }
 
-// Carries on a network that has passed: refusal 31, then 8 for a ledger of that many steps, then the steps.
+// Carries on a network that has passed: refusal 31, then 8 for a ledger of that many steps, then
+// the steps.
 fn carry_from(
     tables: &NetworkTables,
     boundary: usize,
@@ -245,8 +250,9 @@ fn carry_from(
     carry_steps(tables, boundary, plan, start, ledger, carried)
 }
 
-// Carry on from a boundary: judges a plan of as many lines on the network cut to as many steps, and writes the network text from the boundary on. Refusals: those
-// of the whole network (1 to 6, 28, 30), 31, 8, the plan's, 32.
+// Carry on from a boundary: judges a plan of as many lines on the network cut to as many steps, and
+// writes the network text from the boundary on. Refusals: those of the whole network (1 to 6, 28,
+// 30), 31, 8, the plan's, 32.
 pub fn carry_on(
     network: &[u8],
     boundary: u32,

@@ -16,7 +16,8 @@ use std::io::Read;
 // Room for the longest text of the stored cases.
 const ROOM: usize = 8192;
 
-// Runs a corridor by the library: whether the answer and every volume are as stored. If not, both answers are printed.
+// Runs a corridor by the library: whether the answer and every volume are as stored. If not, both
+// answers are printed.
 fn judge(
     rt: &impl Print,
     number: u32,

@@ -1,4 +1,5 @@
-// The answer of a run in the stored form, which is described in reference/src/cases/corridor_file.rs.
+// The answer of a run in the stored form, which is described in
+// reference/src/cases/corridor_file.rs.
 ghost use Rattle.std.specs.Prelude.{◌≡◌, IfOk};
 ghost use Rattle.std.specs.Io.KnownBytes.{Consumes};
 ghost use Rattle.cells_call.specs.Call.{volumes_in};

@@ -3,8 +3,8 @@ ghost use Rattle.std.specs.Prelude.{◌≡◌, ◌&&◌};
 
 use std::fmt::Display;
 
-// Whether the answer is the stored one and what the call left is as stored. If not, the case is printed: its number,
-// from 0, and both answers.
+// Whether the answer is the stored one and what the call left is as stored. If not, the case is
+// printed: its number, from 0, and both answers.
 pub fn agrees<A: PartialEq + Display>(
     rt: &impl Print,
     number: u32,

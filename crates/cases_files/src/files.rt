@@ -5,8 +5,8 @@ use std::fs::File;
 use std::io::Read;
 use std::rt::Files;
 
-// How the files of a program begin: a mark, the version of their form, and how many numbers to skip after the number of
-// cases.
+// How the files of a program begin: a mark, the version of their form, and how many numbers to skip
+// after the number of cases.
 #[derive(Clone, Copy)]
 pub struct Form {
     pub mark: [u8; 8],
@@ -17,9 +17,9 @@ pub struct Form {
 // The files of every program: the stored cases, and some with a wrong answer on purpose.
 pub const PATHS: [&str; 2] = ["cases.bin", "wrong_answer.bin"];
 
-// Runs the files of a program, and prints each counter under its name. The counts are lent: the prover does not take an
-// array of references whose length is a parameter. Here and below `run_case` has no precondition (`IsAlwaysCallable`),
-// since nothing is known of what a file holds.
+// Runs the files of a program, and prints each counter under its name. The counts are lent: the
+// prover does not take an array of references whose length is a parameter. Here and below
+// `run_case` has no precondition (`IsAlwaysCallable`), since nothing is known of what a file holds.
 pub fn run<R: Files + Print, F: Fn(&mut R::File, u32) -> Result<usize, Malformed>>(
     rt: &R,
     form: Form,
@@ -35,8 +35,9 @@ pub fn run<R: Files + Print, F: Fn(&mut R::File, u32) -> Result<usize, Malformed
     print_counts(rt, names, counts);
 }
 
-// Runs each case of a file, numbered from 0, and counts it where `run_case` says. Prints the file's name and how many
-// cases it has, or that it is malformed: a case is, or bytes are left over. A failed write is ignored.
+// Runs each case of a file, numbered from 0, and counts it where `run_case` says. Prints the file's
+// name and how many cases it has, or that it is malformed: a case is, or bytes are left over. A
+// failed write is ignored.
 pub fn run_file<R: Files + Print, F: FnMut(&mut R::File, u32) -> Result<usize, Malformed>>(
     rt: &R,
     path: &str,

@@ -1,4 +1,5 @@
-// Files of stored cases: how they are read and run, and how their answers are compared, counted and printed.
+// Files of stored cases: how they are read and run, and how their answers are compared, counted and
+// printed.
 #![tactic(auto)]
 
 pub mod agreement;

@@ -24,8 +24,8 @@ fn index_of(numbers: &[u32], number: u32) -> usize
     index.unwrap_or(numbers.len())
 }
 
-// Which counter a case has: the first if it agrees and nothing is refused; that of its refusal's number if it agrees;
-// the last if it differs or was refused with another number.
+// Which counter a case has: the first if it agrees and nothing is refused; that of its refusal's
+// number if it agrees; the last if it differs or was refused with another number.
 pub fn place_of(numbers: &[u32], refusal: Option<Refusal>, same: bool) -> usize
     ensures { result ≡ place_of numbers.now refusal same }
 {
@@ -37,7 +37,8 @@ pub fn place_of(numbers: &[u32], refusal: Option<Refusal>, same: bool) -> usize
     }
 }
 
-// Prints the counts, a line each. A failed write is ignored; no contract can say what an output takes.
+// Prints the counts, a line each. A failed write is ignored; no contract can say what an output
+// takes.
 pub fn print_counts(rt: &impl Print, names: &[&str], counts: &[u64]) {
     for (name, count) in names.iter().zip(counts) {
         let _ = println!(rt; "{name}\t{count}");

@@ -65,8 +65,9 @@ fn answer_to(
     }
 }
 
-// Judges a case by the library, with the ledgers and the buffer as they are before the call: whether the answer, and
-// the checksum of what the call leaves, are those of the other implementation. If not, the case is printed.
+// Judges a case by the library, with the ledgers and the buffer as they are before the call:
+// whether the answer, and the checksum of what the call leaves, are those of the other
+// implementation. If not, the case is printed.
 pub fn judge(
     rt: &impl Print,
     texts: Texts<'_>,

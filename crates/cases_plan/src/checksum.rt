@@ -1,4 +1,5 @@
-// The checksum of two ledgers and a buffer: FNV-1a of 64 bits over the numbers in order, each as four bytes, the lowest first, then over the bytes.
+// The checksum of two ledgers and a buffer: FNV-1a of 64 bits over the numbers in order, each as
+// four bytes, the lowest first, then over the bytes.
 ghost use Rattle.std.specs.Prelude.{◌≡◌, fold};
 ghost use Rattle.cases_plan.specs.Checksum.{with_byte, with_number, checksum_of};
 

@@ -19,14 +19,16 @@ const LEDGER_ROOM: usize = 5888;
 
 const BUFFER_ROOM: usize = 102400;
 
-// The four greatest lengths after the number of cases are skipped: each length is compared with its room instead.
+// The four greatest lengths after the number of cases are skipped: each length is compared with its
+// room instead.
 const FORM: Form = Form {
     mark: *b"PLANCASE",
     version: 4,
     passed_over: 4,
 };
 
-// What a case may take over from the case before: the two texts and the given numbers of the ledger.
+// What a case may take over from the case before: the two texts and the given numbers of the
+// ledger.
 #[derive(Drop)]
 struct Before<'a> {
     network: Kept<'a, u8>,
@@ -34,7 +36,8 @@ struct Before<'a> {
     start: Kept<'a, u32>,
 }
 
-// What a case gives of the ledgers and the buffer before the call, and what the first ledger begins with.
+// What a case gives of the ledgers and the buffer before the call, and what the first ledger begins
+// with.
 #[derive(Clone, Copy)]
 struct Given<'a> {
     ledger: Filled,
@@ -112,7 +115,8 @@ fn run_case<R: Read>(
     judge_filled(rt, number, texts, asked, stored, given)
 }
 
-// Judges and counts the cases of a file, and prints how many it has. No contract: nothing can say what the file gives, or what is printed.
+// Judges and counts the cases of a file, and prints how many it has. No contract: nothing can say
+// what the file gives, or what is printed.
 pub fn run_file(rt: &(impl Files + Print), path: &str, counts: &mut [u64; COUNTERS]) {
     let mut network = [0; NETWORK_ROOM];
     let mut plan = [0; PLAN_ROOM];

@@ -8,8 +8,9 @@ use std::io::Read;
 // In place of a length: the same text or numbers as in the case before.
 const SAME: u32 = u32::MAX;
 
-// A text or numbers, at the start of a room for the longest; none before the first case. The length stands beside the room: there is no heap for a `Vec`, and a
-// slice cut to it would have no room for a longer one.
+// A text or numbers, at the start of a room for the longest; none before the first case. The length
+// stands beside the room: there is no heap for a `Vec`, and a slice cut to it would have no room
+// for a longer one.
 #[derive(Drop)]
 pub struct Kept<'a, T> {
     room: &'a mut [T],

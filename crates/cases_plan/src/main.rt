@@ -1,6 +1,8 @@
-// Runs stored cases through the proved calls, and compares each answer and a checksum of the whole ledgers and the whole buffer after the call with
-// those of another implementation. Prints each case that differs, how many cases each file has, how many agreed, for each call and refusal number,
-// and how many differ. The one case of wrong_answer.bin has a wrong answer on purpose: it must be reported as different.
+// Runs stored cases through the proved calls, and compares each answer and a checksum of the whole
+// ledgers and the whole buffer after the call with those of another implementation. Prints each
+// case that differs, how many cases each file has, how many agreed, for each call and refusal
+// number, and how many differ. The one case of wrong_answer.bin has a wrong answer on purpose: it
+// must be reported as different.
 #![tactic(auto)]
 
 mod answers;

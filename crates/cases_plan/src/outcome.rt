@@ -19,9 +19,9 @@ pub enum Kind {
     Compared,
 }
 
-// The numbers are the totals, queued and in transit, the refusal's number, line, item and plan, the text's length, or
-// order and gap; 0 where there is none. The kind is a number, so that a stored answer of a kind that no call gives can
-// be printed.
+// The numbers are the totals, queued and in transit, the refusal's number, line, item and plan, the
+// text's length, or order and gap; 0 where there is none. The kind is a number, so that a stored
+// answer of a kind that no call gives can be printed.
 #[derive(Clone, Copy, PartialEq)]
 pub struct Outcome {
     pub kind: u32,

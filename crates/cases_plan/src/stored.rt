@@ -1,4 +1,5 @@
-// Reads the stored form of the cases, one part at a time. The form is described in reference/src/cases/stored.rs.
+// Reads the stored form of the cases, one part at a time. The form is described in
+// reference/src/cases/stored.rs.
 ghost use Rattle.std.specs.Prelude.{IfOk};
 ghost use Rattle.std.specs.Io.KnownBytes.{Consumes};
 ghost use Rattle.cases_plan.specs.Stored.{filled_bytes, asked_bytes, second_bytes, second_filled_bytes, reported_bytes, IsQuestionOf};
@@ -18,7 +19,8 @@ pub struct Filled {
     pub fill: u32,
 }
 
-// What a case asks: the buffer that the call is given, the call, and the boundary and the link of it.
+// What a case asks: the buffer that the call is given, the call, and the boundary and the link of
+// it.
 #[derive(Clone, Copy)]
 pub struct Asked {
     pub buffer: Filled,
@@ -85,7 +87,8 @@ pub fn read_asked<R: Read>(file: &mut R) -> Result<Asked, Malformed>
     })
 }
 
-// Reads the sheet that a plan is checked by, or a second plan; an empty text for a call that has none.
+// Reads the sheet that a plan is checked by, or a second plan; an empty text for a call that has
+// none.
 pub fn read_second<'a, R: Read>(
     file: &mut R,
     room: &'a mut [u8],

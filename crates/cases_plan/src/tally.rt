@@ -6,8 +6,8 @@ use std::fmt::Display;
 // How many counters each call has: accepted, and each refusal's number.
 const ANSWERS: usize = 36;
 
-// The counts: for each call, the cases that agreed, by answer; then these two. A flat table, since `files::run_file`
-// counts by one index.
+// The counts: for each call, the cases that agreed, by answer; then these two. A flat table, since
+// `files::run_file` counts by one index.
 pub const DIFFERENT: usize = CALLS.len() * ANSWERS;
 
 pub const PASSED_OVER: usize = DIFFERENT + 1;
@@ -39,8 +39,8 @@ fn print_line(rt: &impl Print, name: impl Display + Drop, counts: &[u64; COUNTER
     let _ = println!(rt);
 }
 
-// The table of the cases that agreed, and how many were passed over and differ. A failed write is ignored; no contract
-// can say what an output takes.
+// The table of the cases that agreed, and how many were passed over and differ. A failed write is
+// ignored; no contract can say what an output takes.
 pub fn print_table(rt: &impl Print, counts: &[u64; COUNTERS]) {
     let _ = print!(rt; "answer");
     for call in CALLS {

@@ -15,13 +15,14 @@ use std::io::Read;
 // Room for every text and buffer of the stored cases.
 const ROOM: usize = 8192;
 
-// The names of the counters: written, refused for the network itself, each other number of the call, and cases that
-// differ.
+// The names of the counters: written, refused for the network itself, each other number of the
+// call, and cases that differ.
 pub const PLACES: [&str; 7] = ["written", "network", "9", "40", "41", "42", "different"];
 
 const DIFFERENT: usize = PLACES.len() - 1;
 
-// What a case gives: the texts that are split, what is stored of the answer, and what of the buffers.
+// What a case gives: the texts that are split, what is stored of the answer, and what of the
+// buffers.
 #[derive(Clone, Copy)]
 struct Case<'a> {
     whole: Texts<'a>,
@@ -39,8 +40,8 @@ struct Head {
     refusal: Option<Refusal>,
 }
 
-// Which counter a refusal has, or a split that was written. Not `tally::place_of`: the network's own refusals share one
-// counter.
+// Which counter a refusal has, or a split that was written. Not `tally::place_of`: the network's
+// own refusals share one counter.
 fn place_of(refusal: Option<Refusal>) -> usize {
     match refusal.map(|refusal| refusal.number) {
         None => 0,
@@ -52,8 +53,8 @@ fn place_of(refusal: Option<Refusal>) -> usize {
     }
 }
 
-// Whether the answer, and every byte of the four buffers after the call, are as stored. If not, the refusals are
-// printed.
+// Whether the answer, and every byte of the four buffers after the call, are as stored. If not, the
+// refusals are printed.
 fn is_as_stored(
     rt: &impl Print,
     answer: Result<Lengths, Refusal>,
@@ -71,8 +72,8 @@ fn is_as_stored(
     agrees(rt, stored.number, &given, &expected, is_left)
 }
 
-// Splits by the library: whether all is as stored. The four buffers are separate variables: the prover does not take a
-// `&mut` that is taken out of a struct and lent.
+// Splits by the library: whether all is as stored. The four buffers are separate variables: the
+// prover does not take a `&mut` that is taken out of a struct and lent.
 fn judge(
     rt: &impl Print,
     case: Case<'_>,

@@ -1,6 +1,7 @@
-// Splits stored networks and plans by `split`, and compares each answer and every byte of the four buffers with those of another implementation. Prints each
-// case that differs, how many cases each file has, how many agreed, by refusal number, and how many differ. The two cases of wrong_answer.bin have a wrong
-// answer on purpose: they must be reported as different.
+// Splits stored networks and plans by `split`, and compares each answer and every byte of the four
+// buffers with those of another implementation. Prints each case that differs, how many cases each
+// file has, how many agreed, by refusal number, and how many differ. The two cases of
+// wrong_answer.bin have a wrong answer on purpose: they must be reported as different.
 #![tactic(auto)]
 
 mod compare;

@@ -1,4 +1,5 @@
-// The answer of a split and its four texts in the stored form, which is described in reference/src/cases/split_file.rs.
+// The answer of a split and its four texts in the stored form, which is described in
+// reference/src/cases/split_file.rs.
 ghost use Rattle.std.specs.Prelude.{◌≡◌, IfOk};
 ghost use Rattle.std.specs.Io.KnownBytes.{Consumes};
 ghost use Rattle.split.specs.Splitting.{buffers};
@@ -26,8 +27,8 @@ pub struct Stored {
     pub lengths: Lengths,
 }
 
-// The four buffers after a split, or what was stored of them, a room for each. `Lengths` is a type of its own: the
-// names say more than one `Four<T>` would.
+// The four buffers after a split, or what was stored of them, a room for each. `Lengths` is a type
+// of its own: the names say more than one `Four<T>` would.
 #[derive(Clone, Copy)]
 pub struct Buffers<'a> {
     pub network_1: &'a [u8],

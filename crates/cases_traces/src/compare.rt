@@ -1,4 +1,5 @@
-// Reads the cases, takes each step by the proved call and compares. The stored form is described in reference/src/cases/street_file.rs.
+// Reads the cases, takes each step by the proved call and compares. The stored form is described in
+// reference/src/cases/street_file.rs.
 ghost use Rattle.std.specs.Prelude.{◌≡◌};
 ghost use Rattle.traces.specs.Call.{step_vehicles, places_after};
 ghost use Rattle.cases_traces.specs.Compare.{as_stored};
@@ -25,7 +26,8 @@ struct Case<'a> {
     told: &'a [f64],
 }
 
-// Takes a step by the library: whether the answer and every place are as stored. If not, both answers are printed.
+// Takes a step by the library: whether the answer and every place are as stored. If not, both
+// answers are printed.
 fn judge(rt: &impl Print, number: u32, case: Case<'_>) -> bool
     ensures { let places = case.entry.places.now in let advances = case.entry.advances.now in let lines = case.entry.red_lines.now in let spacing = case.entry.spacing in
         result ≡ as_stored (step_vehicles places advances lines spacing) (places_after places advances lines spacing) case.entry.stored case.entry.told.now }

@@ -1,6 +1,7 @@
-// Takes stored steps of vehicles by `step_vehicles`, and compares each answer and every place with those of another implementation. Prints each case that
-// differs, how many cases each file has, how many agreed, by refusal number, and how many differ. The two cases of wrong_answer.bin have a wrong answer on
-// purpose: they must be reported as different.
+// Takes stored steps of vehicles by `step_vehicles`, and compares each answer and every place with
+// those of another implementation. Prints each case that differs, how many cases each file has, how
+// many agreed, by refusal number, and how many differ. The two cases of wrong_answer.bin have a
+// wrong answer on purpose: they must be reported as different.
 #![tactic(auto)]
 
 mod compare;

@@ -1,5 +1,6 @@
-// Values of the stored form, which are 64-bit floats by their bits. A NaN is one value, whatever its bits are: the
-// toolchain fixes neither the value of a NaN's bits nor the bits of a NaN, so both are defined here.
+// Values of the stored form, which are 64-bit floats by their bits. A NaN is one value, whatever
+// its bits are: the toolchain fixes neither the value of a NaN's bits nor the bits of a NaN, so
+// both are defined here.
 ghost use Rattle.std.specs.Prelude.{◌≡◌, length, IfOk};
 ghost use Rattle.std.specs.Float.{binary64};
 ghost use Rattle.std.specs.List.{list_all, zip};
@@ -9,7 +10,8 @@ ghost use Rattle.cases_traces.specs.Values.{same_value, same_values, ValueRead};
 use cases_files::reading::{Malformed, read_each, read_u64};
 use std::io::Read;
 
-// The bits of an infinity, and the weight of the sign: without the sign, a NaN's bits are a number above the former.
+// The bits of an infinity, and the weight of the sign: without the sign, a NaN's bits are a number
+// above the former.
 const INFINITY: u64 = 0x7ff0_0000_0000_0000;
 
 const SIGN: u64 = 1 << 63;
@@ -49,8 +51,8 @@ pub fn are_same(values: &[f64], told: &[f64]) -> bool
     values.len() == told.len() && all_same(values, told)
 }
 
-// Whether the values are the same one by one, up to the end of the shorter list. A function of its own: after the `&&`
-// of `are_same`, `search` does not prove it.
+// Whether the values are the same one by one, up to the end of the shorter list. A function of its
+// own: after the `&&` of `are_same`, `search` does not prove it.
 fn all_same(values: &[f64], told: &[f64]) -> bool
     ensures { result ≡ list_all (λ p. same_value p.0 p.1) (zip values.now told.now) }
 {

@@ -9,7 +9,8 @@ ghost use Rattle.cells_call.specs.Call.{run_cells, final_volumes, RunKeeps};
 use base_search::Refusal;
 use cells_steps::{Cell, MAX_CELLS, MAX_DEMANDS};
 
-// What a run gives: how many cells there are, the total flow in and out, and the final volumes, 0 past the cells.
+// What a run gives: how many cells there are, the total flow in and out, and the final volumes, 0
+// past the cells.
 #[derive(Clone, Copy)]
 pub struct CellsRun {
     pub cells: u32,

@@ -1,4 +1,5 @@
-// The steps of a chain of cells over lent volumes (T-12). All flows of a step use the volumes before it.
+// The steps of a chain of cells over lent volumes (T-12). All flows of a step use the volumes
+// before it.
 #![tactic(auto)]
 
 ghost use Rattle.std.specs.Prelude.{◌≡◌, ◌≤◌, length};
@@ -37,8 +38,8 @@ pub struct Passed<T> {
     pub flow_out: T,
 }
 
-// One step, cell by cell. The flow out of a cell depends on its volume before the step, not on what has just entered
-// it; it enters the next cell, or leaves by the exit.
+// One step, cell by cell. The flow out of a cell depends on its volume before the step, not on what
+// has just entered it; it enters the next cell, or leaves by the exit.
 fn step_cells(cells: &[Cell], exit: u32, demand: u32, volumes: &mut [u32]) -> Passed<u32>
     requires { Ready (chain_of cells.now exit) volumes.old }
     ensures { Stepped (chain_of cells.now exit) demand volumes.old result volumes.new }

@@ -20,14 +20,16 @@ use network::Room;
 use network_tables::{Counts, LINE_SIZE, MAX_LINKS, MAX_MOVEMENTS, MAX_SIGNALS, MAX_STEPS};
 use network_writer::{ADMITTED_AT, LET_OUT_AT, MOVED_AT};
 
-// Where the bits of what is admitted, let out and moved start in a step's row, behind those of the phases.
+// Where the bits of what is admitted, let out and moved start in a step's row, behind those of the
+// phases.
 const ADMITTED_BITS: usize = MAX_PHASES * MAX_SIGNALS;
 
 const LET_OUT_BITS: usize = ADMITTED_BITS + MAX_LINKS;
 
 const MOVED_BITS: usize = LET_OUT_BITS + MAX_LINKS;
 
-// How many bytes the bits of a step have. They are packed by hand, since memory is fixed: a `bool` for each would take 21,120 bytes of stack in place of 2,640.
+// How many bytes the bits of a step have. They are packed by hand, since memory is fixed: a `bool`
+// for each would take 21,120 bytes of stack in place of 2,640.
 const STEP_BYTES: usize = (MOVED_BITS + MAX_MOVEMENTS) / 8;
 
 // How many millionths are a thousandth, the unit of a volume.
@@ -41,8 +43,9 @@ struct Place {
     number: usize,
 }
 
-// What a listing is judged by: the counts and the signals of a network, and the times of the boundaries from the plan's start on, of which only differences count.
-// All are lent: no table is copied.
+// What a listing is judged by: the counts and the signals of a network, and the times of the
+// boundaries from the plan's start on, of which only differences count. All are lent: no table is
+// copied.
 #[derive(Clone, Copy)]
 struct Tables<'a> {
     counts: Counts,
@@ -105,8 +108,8 @@ impl Tables<'_> {
         }
     }
 
-    // Which number a line adds, and at which place; or its refusal. `seen` has a bit for each variable that an earlier
-    // line has set.
+    // Which number a line adds, and at which place; or its refusal. `seen` has a bit for each
+    // variable that an earlier line has set.
     #[tactic(auto, using(crate::proofs::Tests::tests), unfolding(crate::specs::Tables::outcome, crate::specs::Listing::step_of))]
     fn judge(
         &self,
@@ -131,7 +134,8 @@ impl Tables<'_> {
         Ok((place, number))
     }
 
-    // Reads a listing into empty tables, refusals 22 and 23: each line adds to one number and sets the bit of its variable.
+    // Reads a listing into empty tables, refusals 22 and 23: each line adds to one number and sets
+    // the bit of its variable.
     fn read_listing(
         &self,
         text: &[u8],
@@ -194,7 +198,8 @@ fn set_bit(bytes: &mut [u8], k: usize)
     bytes[k / 8] |= 1 << (k % 8);
 }
 
-// The bit of a phase in a mask. Not `step_signals::mask_of`, which takes phases up to 8 only: a listing may name any.
+// The bit of a phase in a mask. Not `step_signals::mask_of`, which takes phases up to 8 only: a
+// listing may name any.
 #[tactic(auto, using(crate::proofs::Tests::tests, std::proofs::lemmas::Grind::common_steps))]
 fn phase_bit(phase: u64) -> u32
     ensures { result ≡ phase_bit phase }
@@ -205,8 +210,9 @@ fn phase_bit(phase: u64) -> u32
     }
 }
 
-// The volume of a rate over some seconds, in thousandths of a vehicle. By refusal 6 a step lasts at most 60 seconds, so
-// the product, here and in `number_of`, fits a `u64`; the functions require this, as those of step_signals do.
+// The volume of a rate over some seconds, in thousandths of a vehicle. By refusal 6 a step lasts at
+// most 60 seconds, so the product, here and in `number_of`, fits a `u64`; the functions require
+// this, as those of step_signals do.
 #[tactic(auto, using(crate::proofs::Tests::tests), unfolding(crate::specs::Listing::is_volume, crate::specs::Listing::volume))]
 fn volume_of(millionths: u64, seconds: u32) -> Option<u32>
     requires small { millionths < 10 ^ 16 }
@@ -233,7 +239,8 @@ fn number_of(setting: Setting, seconds: u32) -> Option<u32>
     }
 }
 
-// The plan text of a solver's listing: refusals 1 to 6, 28 and 30, then 22 and 23 line by line, then 24.
+// The plan text of a solver's listing: refusals 1 to 6, 28 and 30, then 22 and 23 line by line,
+// then 24.
 pub fn plan_from_listing(network: &[u8], listing: &[u8], out: &mut [u8]) -> Result<usize, Refusal>
     ensures plan_got { PlanGot (lines network.now) (entries listing.now) out.old result out.new }
     ensures padding_ignored { PaddingIgnored network.now (λ padded. PlanGot (lines padded) (entries listing.now) out.old result out.new) }

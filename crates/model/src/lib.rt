@@ -1,5 +1,5 @@
-// The definitions of the plan check (specs/) and the theorems about them (proofs/). In code only the types of its answers and
-// of a signal.
+// The definitions of the plan check (specs/) and the theorems about them (proofs/). In code only
+// the types of its answers and of a signal.
 #![tactic(auto)]
 
 ghost use Rattle.std.specs.Prelude.{◌≡◌, ◌+◌, ◌*◌, ◌≤◌, get_or};
@@ -10,9 +10,10 @@ pub const MAX_PHASES: usize = 8;
 // How many numbers a `G` line has, with `MAX_PHASES` phases.
 pub const SIGNAL_FIELDS: usize = 6 + 2 * MAX_PHASES;
 
-// A signal (the paper's light): its `G` line, with the phase that it shows, for how many seconds, and the seconds since
-// phase 1 last began. `least` and `greatest` have phase k's times at k - 1. The type does not say that it has at most 8
-// phases: it is made from any `G` line, and judged then (refusal 3).
+// A signal (the paper's light): its `G` line, with the phase that it shows, for how many seconds,
+// and the seconds since phase 1 last began. `least` and `greatest` have phase k's times at k - 1.
+// The type does not say that it has at most 8 phases: it is made from any `G` line, and judged then
+// (refusal 3).
 #[derive(Clone, Copy, Default)]
 pub struct Signal {
     pub least_cycle: u32,
@@ -38,8 +39,8 @@ impl Signal {
 impl From<[u32; SIGNAL_FIELDS]> for Signal {
     ghost from_gives = { λ fields signal. signal ≡ signal_by (λ k. get_or fields k 0) };
 
-    // Each time is written out, since least and greatest times alternate: a loop would have to compute their places, 6
-    // + 2 * k and 7 + 2 * k.
+    // Each time is written out, since least and greatest times alternate: a loop would have to
+    // compute their places, 6 + 2 * k and 7 + 2 * k.
     fn from(fields: [u32; SIGNAL_FIELDS]) -> Self {
         Signal {
             least_cycle: fields[0],
@@ -60,7 +61,8 @@ impl From<[u32; SIGNAL_FIELDS]> for Signal {
     }
 }
 
-// A signal's numbers as its `G` line has them, with room for eight phases: written out, as they are read.
+// A signal's numbers as its `G` line has them, with room for eight phases: written out, as they are
+// read.
 impl From<&Signal> for [u32; SIGNAL_FIELDS] {
     ghost from_gives = { λ signal fields. fields ≡ signal_row signal.now };
 
@@ -95,7 +97,8 @@ impl From<&Signal> for [u32; SIGNAL_FIELDS] {
     }
 }
 
-// The four totals: volumes admitted and let out, what the network holds at the end, and the doubled travel time.
+// The four totals: volumes admitted and let out, what the network holds at the end, and the doubled
+// travel time.
 #[derive(Clone, Copy)]
 pub struct Totals {
     pub admitted: u64,

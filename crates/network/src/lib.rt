@@ -22,7 +22,8 @@ use network_tables::{
 };
 use step_past::Arrival;
 
-// How a network stands at boundary 0, before a plan: its signals, row 0 of the ledger, and what each link waits for. Steps move the signals and the arrivals on.
+// How a network stands at boundary 0, before a plan: its signals, row 0 of the ledger, and what
+// each link waits for. Steps move the signals and the arrivals on.
 #[derive(Clone, Copy, Default)]
 pub struct Start {
     pub signals: [Signal; MAX_SIGNALS],
@@ -30,7 +31,8 @@ pub struct Start {
     pub arrivals: [Arrival; MAX_LINKS],
 }
 
-// The room for what else a network's reading gives: for that of the largest network, since there is no heap.
+// The room for what else a network's reading gives: for that of the largest network, since there is
+// no heap.
 #[derive(Clone, Copy, Default)]
 pub struct Room {
     links: [Link; MAX_LINKS],
@@ -49,7 +51,8 @@ fn check_end(text: &[u8], reading: Reading) -> Result<(), Refusal>
     checked(ended, Reason::NetworkForm, line, 0)
 }
 
-// The `T` and the `G` lines, then the trams' phases, which are reported at their `T` lines. After that no table of the trams is needed.
+// The `T` and the `G` lines, then the trams' phases, which are reported at their `T` lines. After
+// that no table of the trams is needed.
 fn read_trams_and_signals(
     text: &[u8],
     reading: Reading,
@@ -66,7 +69,8 @@ fn read_trams_and_signals(
     Ok(reading)
 }
 
-// The `H` and the `S` lines, the end of the text and, last of all, what the past must keep (30), with what it gives at boundary 0.
+// The `H` and the `S` lines, the end of the text and, last of all, what the past must keep (30),
+// with what it gives at boundary 0.
 fn read_timeline<'a>(
     text: &'a [u8],
     reading: Reading,
@@ -94,7 +98,8 @@ fn read_timeline<'a>(
     Ok(tables)
 }
 
-// Reads a network into four tables, row 0 and what each link waits for, and judges it, in the order of its lines.
+// Reads a network into four tables, row 0 and what each link waits for, and judges it, in the order
+// of its lines.
 fn read_tables<'a>(
     text: &'a [u8],
     signals: &mut [Signal],
@@ -119,8 +124,10 @@ fn read_tables<'a>(
     read_timeline(text, reading, links, movements, times, row, arrivals)
 }
 
-// Reads a network into tables of its signals, its links, its movements and the time of each boundary of the timeline, and judges it: refusals 1 to 6, 28 and 30.
-// For calls that judge no plan: what the past gives at the start takes no stack of theirs, by measurement (docs/MEASUREMENTS.md).
+// Reads a network into tables of its signals, its links, its movements and the time of each
+// boundary of the timeline, and judges it: refusals 1 to 6, 28 and 30. For calls that judge no
+// plan: what the past gives at the start takes no stack of theirs, by measurement
+// (docs/MEASUREMENTS.md).
 pub fn read_network<'a>(
     text: &'a [u8],
     signals: &mut [Signal; MAX_SIGNALS],

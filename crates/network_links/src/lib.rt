@@ -22,7 +22,8 @@ const MAX_TRAVEL_TIME: u32 = 3600;
 // The greatest exit rate of a link, and rate of a movement.
 const MAX_RATE: u32 = 10_000;
 
-// Refusal 4: a link without a signal has no phase; one with a signal has a phase, and none above the signal's number of phases.
+// Refusal 4: a link without a signal has no phase; one with a signal has a phase, and none above
+// the signal's number of phases.
 fn valid_mask(mask: u32, signal: usize, signals: &[Signal]) -> bool
     requires { (FewPhases signals.now) × (signal ≤ length signals.now) }
     ensures { result ≡ valid_mask_in mask signal signals.now }
@@ -71,8 +72,8 @@ pub fn read_links(
     Ok(reading.moved_to(next))
 }
 
-// Refusal 5: the pair (from, to) of movement `j` is above that of the movement before. Written out, since `search` does
-// not prove a comparison of tuples.
+// Refusal 5: the pair (from, to) of movement `j` is above that of the movement before. Written out,
+// since `search` does not prove a comparison of tuples.
 fn pair_rises(movements: &[Movement], j: usize) -> bool
     requires { j < length movements.now }
     ensures { result ≡ pair_rises_in movements.now j }
@@ -168,7 +169,8 @@ fn bad_shares(movements: &[Movement], link: usize, sum: u64) -> Option<usize>
     last_movement(movements, link)
 }
 
-// Refusal 5 after all `M` lines: the shares by rising link, reported at the link's last movement. Inlined, for check_plan's speed (docs/MEASUREMENTS.md).
+// Refusal 5 after all `M` lines: the shares by rising link, reported at the link's last movement.
+// Inlined, for check_plan's speed (docs/MEASUREMENTS.md).
 #[inline(always)]
 pub fn check_shares(movements: &[Movement], counts: Counts) -> Result<(), Refusal>
     requires { SharesAsked movements.now counts }

@@ -1,4 +1,5 @@
-// The `H` lines of a network text: their form (refusal 1), and what they must keep once all lines have passed (refusal 30).
+// The `H` lines of a network text: their form (refusal 1), and what they must keep once all lines
+// have passed (refusal 30).
 #![tactic(auto)]
 
 ghost use Rattle.std.specs.Prelude.{◌≡◌, true};
@@ -19,8 +20,9 @@ const MAX_OFFERED: u64 = 72_000_000;
 // How many vehicles 23 movements of 10,000 a second bring to a link in a step of 60 seconds.
 const MAX_BROUGHT: u64 = 13_800_000;
 
-// The `H` lines: each line's form (refusal 1), and the times of the boundaries of the past, if its lengths are valid and all steps are few enough. Not by `read_rows`:
-// the lines are kept in no table, but only their times.
+// The `H` lines: each line's form (refusal 1), and the times of the boundaries of the past, if its
+// lengths are valid and all steps are few enough. Not by `read_rows`: the lines are kept in no
+// table, but only their times.
 pub fn read_past(text: &[u8], reading: Reading, times: &mut [u32]) -> Result<Reading, Refusal>
     requires { FormsAsked text.now reading times.old }
     ensures { Judged (block_checks (past_block (lines text.now))) (FormsHeld text.now times.new) result }
@@ -45,8 +47,8 @@ pub fn read_past(text: &[u8], reading: Reading, times: &mut [u32]) -> Result<Rea
     })
 }
 
-// Refusal 30, link `i` where the past ends: it has left at most what has arrived, holds at most its capacity, and its past entries, waiting volume and demands
-// are few enough.
+// Refusal 30, link `i` where the past ends: it has left at most what has arrived, holds at most its
+// capacity, and its past entries, waiting volume and demands are few enough.
 fn valid_past(
     tables: &NetworkTables,
     demands: &[u32],
@@ -82,7 +84,8 @@ fn valid_links(tables: &NetworkTables, demands: &[u32], row: &[u32], arrivals: &
     (0..tables.reading.counts.links).all(|i| valid_past(tables, demands, row, arrivals, i))
 }
 
-// Refusal 30, of the whole past. The lengths of the past and the number of steps were judged as they were read.
+// Refusal 30, of the whole past. The lengths of the past and the number of steps were judged as
+// they were read.
 fn is_valid(
     tables: &NetworkTables,
     demands: &[u32],
@@ -100,7 +103,8 @@ fn is_valid(
         && valid_links(tables, demands, row, arrivals)
 }
 
-// Refusal 30, after all lines. The `H` lines are read for it, so that it also gives what they say of boundary 0: row 0, and what each link waits for.
+// Refusal 30, after all lines. The `H` lines are read for it, so that it also gives what they say
+// of boundary 0: row 0, and what each link waits for.
 pub fn check_past(
     tables: &NetworkTables,
     demands: &[u32],

@@ -96,7 +96,8 @@ fn valid_signal(signal: Signal) -> bool
         & ((signal.shown != 1) | (signal.cycle_clock == signal.shown_for))
 }
 
-// The least of `so_far` and the greatest times of the signal's phases: no step may be longer (refusal 6).
+// The least of `so_far` and the greatest times of the signal's phases: no step may be longer
+// (refusal 6).
 fn shortest_time(signal: Signal, so_far: u32) -> u32
     requires { signal.phases ≤ 8 }
     ensures { result ≡ shortest_time signal signal.phases so_far }
@@ -114,8 +115,8 @@ fn valid_phases(phases: u32) -> bool
     (2..=8).contains(&phases)
 }
 
-// The `G` line of signal `r` into its place: refusal 1 for its first seven fields, 3 for its number of phases, 1 for the rest of its form, 3 for its other
-// values.
+// The `G` line of signal `r` into its place: refusal 1 for its first seven fields, 3 for its number
+// of phases, 1 for the rest of its form, 3 for its other values.
 fn read_signal(
     text: &[u8],
     reading: Reading,
@@ -147,9 +148,9 @@ fn read_signal(
     Ok(reading.moved_to(next))
 }
 
-// All `G` lines: the first refusal, or the signals, and the shortest of all greatest times, 60 where all are longer: no
-// step has more seconds (refusal 6). By index: r also numbers the line and the refusal, and `read_signal` takes the
-// whole table and promises to keep the other signals.
+// All `G` lines: the first refusal, or the signals, and the shortest of all greatest times, 60
+// where all are longer: no step has more seconds (refusal 6). By index: r also numbers the line and
+// the refusal, and `read_signal` takes the whole table and promises to keep the other signals.
 pub fn read_signals(
     text: &[u8],
     reading: Reading,

@@ -1,4 +1,5 @@
-// The `S` lines of a network text: their form and values (refusals 1 and 6), the time of each boundary, and the demand of each link in all steps.
+// The `S` lines of a network text: their form and values (refusals 1 and 6), the time of each
+// boundary, and the demand of each link in all steps.
 #![tactic(auto)]
 
 ghost use Rattle.std.specs.Prelude.{◌≡◌};
@@ -20,15 +21,17 @@ fn valid_demands(demands: &[u32]) -> bool
     demands.iter().all(|demand| *demand <= MAX_DEMAND)
 }
 
-// Refusal 6: whether the length is 1 to 60 and at most the shortest of all greatest times, and the demands are valid.
+// Refusal 6: whether the length is 1 to 60 and at most the shortest of all greatest times, and the
+// demands are valid.
 fn valid_step(seconds: u32, demands: &[u32], shortest: u32) -> bool
     ensures { result ≡ valid_step_in seconds demands.now shortest }
 {
     (1..=MAX_SECONDS).contains(&seconds) & (seconds <= shortest) & valid_demands(demands)
 }
 
-// Refusals 1 and 6: reads the `S` lines, sets the time of each boundary, if the past is timed, and sums up the demands
-// of each link. Not by `read_rows`: no table keeps the lines, only their times and sums are kept.
+// Refusals 1 and 6: reads the `S` lines, sets the time of each boundary, if the past is timed, and
+// sums up the demands of each link. Not by `read_rows`: no table keeps the lines, only their times
+// and sums are kept.
 pub fn read_steps(
     text: &[u8],
     reading: Reading,

@@ -1,5 +1,5 @@
-// The program's tables of a network and a plan: their sizes, and each number by its name in the paper. Links, signals, movements
-// and steps are counted from 0 here.
+// The program's tables of a network and a plan: their sizes, and each number by its name in the
+// paper. Links, signals, movements and steps are counted from 0 here.
 #![tactic(auto)]
 
 ghost use Rattle.std.specs.Prelude.{◌≡◌, ◌+◌, ◌*◌, ◌<◌, ◌≤◌, length, get_or};
@@ -33,7 +33,8 @@ pub const MAX_SECONDS: u32 = 60;
 // What the shares of a link's movements sum to, in thousandths.
 pub const WHOLE_SHARE: u32 = 1000;
 
-// How many numbers an `N`, a `T`, a `Q` and an `M` line have, and at most an `H`, an `S` and a `P` line.
+// How many numbers an `N`, a `T`, a `Q` and an `M` line have, and at most an `H`, an `S` and a `P`
+// line.
 pub const COUNT_FIELDS: usize = 6;
 
 pub const TRAM_FIELDS: usize = 4;
@@ -53,8 +54,8 @@ pub const TIME_TABLE_SIZE: usize = MAX_STEPS + 1;
 
 pub const ROW_SIZE: usize = 2 * MAX_LINKS;
 
-// The counts of an `N` line. The type does not say that they are within the limits (`Few`): they are judged after they
-// are read (refusal 2).
+// The counts of an `N` line. The type does not say that they are within the limits (`Few`): they
+// are judged after they are read (refusal 2).
 #[derive(Clone, Copy)]
 pub struct Counts {
     pub links: usize,
@@ -80,7 +81,8 @@ impl From<[u32; COUNT_FIELDS]> for Counts {
     }
 }
 
-// A `T` line: the signal and the phase that a tram asks, from its first to its last step; all counted from 1.
+// A `T` line: the signal and the phase that a tram asks, from its first to its last step; all
+// counted from 1.
 #[derive(Clone, Copy, Default)]
 pub struct Tram {
     pub signal: u32,
@@ -110,8 +112,8 @@ impl From<Tram> for [u32; TRAM_FIELDS] {
     }
 }
 
-// A `Q` line: a link, with the number of its signal, from 1, or 0 for none: not an `Option`, since it is compared with
-// numbers of the text and written back as it is.
+// A `Q` line: a link, with the number of its signal, from 1, or 0 for none: not an `Option`, since
+// it is compared with numbers of the text and written back as it is.
 #[derive(Clone, Copy, Default)]
 pub struct Link {
     pub capacity: u32,
@@ -185,9 +187,10 @@ impl From<Movement> for [u32; MOVEMENT_FIELDS] {
     }
 }
 
-// How far a network text has been read while its lines pass: its counts, the place of the next line, the places where
-// its `T`, its `H` and its `S` lines start, the shortest of all greatest times, and whether the lengths of the past
-// steps and the number of all steps are valid: a `bool`, since refusal 30 is reported after all lines.
+// How far a network text has been read while its lines pass: its counts, the place of the next
+// line, the places where its `T`, its `H` and its `S` lines start, the shortest of all greatest
+// times, and whether the lengths of the past steps and the number of all steps are valid: a `bool`,
+// since refusal 30 is reported after all lines.
 #[derive(Clone, Copy)]
 pub struct Reading {
     pub counts: Counts,
@@ -222,7 +225,8 @@ pub struct NetworkTables<'a> {
     ghost sized: { LinksSized reading links.now },
 }
 
-// The places of lines in a network text, from 0, and how many numbers an `H`, an `S` and a `P` line have.
+// The places of lines in a network text, from 0, and how many numbers an `H`, an `S` and a `P` line
+// have.
 impl Counts {
     pub fn tram_line(self, k: usize) -> usize
         requires { k ≤ max_trams }
@@ -309,17 +313,18 @@ pub fn read_again(text: &[u8], at: usize, letter: u8, row: &mut [u32]) -> usize
     read_row(text, at, letter, row).unwrap_or(at)
 }
 
-// Reads the beginning of a line of this letter: the numbers that fill a row, whatever follows them. Returns a `bool`,
-// since there is no place of a next line.
+// Reads the beginning of a line of this letter: the numbers that fill a row, whatever follows them.
+// Returns a `bool`, since there is no place of a next line.
 pub fn read_head(text: &[u8], at: usize, letter: u8, row: &mut [u32]) -> bool
     ensures { HeadRead letter (length row.old) text.now at row.old result row.new }
 {
     text_reader::head_at(text, at, letter, row)
 }
 
-// Reads `count` lines of a letter into the items of a table, and judges each item before it reads the next line.
-// Returns the place after the last of them, or the first refusal. `first` is the number, from 1, of the line at `at`.
-// By index: the closure judges the table up to the item, and could not read it while `iter_mut` lends the item.
+// Reads `count` lines of a letter into the items of a table, and judges each item before it reads
+// the next line. Returns the place after the last of them, or the first refusal. `first` is the
+// number, from 1, of the line at `at`. By index: the closure judges the table up to the item, and
+// could not read it while `iter_mut` lends the item.
 pub fn read_rows<
     const W: usize,
     T: From<[u32; W]> + Copy,
@@ -374,9 +379,9 @@ pub fn add_each(numbers: &[u32], sums: &mut [u32])
     }
 }
 
-// The numbers of an `S` line: its length, and the demand of link `i`. An `S` line and a `P` line are slices, as callers
-// lend them. Each function requires `i < max_links`: with an index type for this, each caller would have to make one
-// first.
+// The numbers of an `S` line: its length, and the demand of link `i`. An `S` line and a `P` line
+// are slices, as callers lend them. Each function requires `i < max_links`: with an index type for
+// this, each caller would have to make one first.
 pub fn step_length(step: &[u32]) -> u32
     requires { length step.now ≡ step_size }
     ensures { result ≡ length_in step.now }
@@ -391,8 +396,8 @@ pub fn demand(step: &[u32], i: usize) -> u32
     step[1 + i]
 }
 
-// The numbers of a `P` line: what it admits on link i, lets out from link i, and moves by movement j. Line and counts
-// are two parameters: only some callers have a `Step`, which has both.
+// The numbers of a `P` line: what it admits on link i, lets out from link i, and moves by movement
+// j. Line and counts are two parameters: only some callers have a `Step`, which has both.
 pub fn admitted(line: &[u32], counts: Counts, i: usize) -> u32
     requires { Few counts × (i < max_links) × (length line.now ≡ line_size) }
     ensures { result ≡ admitted_in counts line.now i }
@@ -437,7 +442,8 @@ pub fn row_start(n: usize, count: usize) -> usize
     2 * n * count
 }
 
-// Entered and left of link i at boundary `n`, as a ledger has them. C lends the ledger as a slice, so that the count of links stands beside it.
+// Entered and left of link i at boundary `n`, as a ledger has them. C lends the ledger as a slice,
+// so that the count of links stands beside it.
 pub fn entered_at(ledger: &[u32], count: usize, n: usize, i: usize) -> u32
     requires { RowHeld ledger.now count n i }
     ensures { result ≡ entered_at ledger.now count n i }

@@ -1,4 +1,5 @@
-// The `T` lines of a network text: refusals 1 and 28, their table, and the phases that trams ask in a step by it.
+// The `T` lines of a network text: refusals 1 and 28, their table, and the phases that trams ask in
+// a step by it.
 #![tactic(auto)]
 
 ghost use Rattle.std.specs.Prelude.{◌≡◌, ◌<◌, length};
@@ -47,7 +48,8 @@ fn valid_tram(trams: &[Tram], signals: usize, steps: usize, k: usize) -> bool
         & is_apart_from_earlier(trams, k)
 }
 
-// The `T` lines: each line's form (refusal 1), then its values (refusal 28). The room gets a tram for each of them.
+// The `T` lines: each line's form (refusal 1), then its values (refusal 28). The room gets a tram
+// for each of them.
 pub fn read_trams(text: &[u8], reading: Reading, trams: &mut [Tram]) -> Result<Reading, Refusal>
     requires { TramsAsked text.now reading trams.old }
     ensures { Judged (block_checks (tram_block (lines text.now))) (TramsHeld text.now trams.new) result }
@@ -78,7 +80,8 @@ fn valid_phase(tram: Tram, signals: &[Signal]) -> bool
     (1..=last).contains(&tram.phase)
 }
 
-// Refusal 28 after the last `G` line: each tram's phase is one of its signal, reported at its `T` line.
+// Refusal 28 after the last `G` line: each tram's phase is one of its signal, reported at its `T`
+// line.
 pub fn check_tram_phases(trams: &[Tram], signals: &[Signal], counts: Counts) -> Result<(), Refusal>
     requires { PhasesAsked trams.now signals.now counts }
     ensures { result ≡ verdict (each counts.trams (phase_checks_in trams.now signals.now counts)) }
@@ -90,7 +93,8 @@ pub fn check_tram_phases(trams: &[Tram], signals: &[Signal], counts: Counts) -> 
     Ok(())
 }
 
-// Reads the `T` lines again, which have passed; returns the part of the room that has a tram for each.
+// Reads the `T` lines again, which have passed; returns the part of the room that has a tram for
+// each.
 pub fn load_trams<'a>(tables: &NetworkTables, room: &'a mut [Tram]) -> &'a [Tram]
     requires { LoadAsked tables.now room.old }
     ensures { TramTable (lines tables.now.text.now) result.now }
@@ -122,8 +126,8 @@ fn claim(tram: Tram, n: usize, asked: &mut [u32])
     }
 }
 
-// The phase that a tram asks of each signal in step `n`, 0 in an ordinary step. From the last tram to the first: if
-// several claim a signal, the first counts.
+// The phase that a tram asks of each signal in step `n`, 0 in an ordinary step. From the last tram
+// to the first: if several claim a signal, the first counts.
 pub fn tram_phases(trams: &[Tram], n: usize, asked: &mut [u32])
     requires { ClaimsAsked trams.now n asked.old }
     ensures { Claimed trams.now n asked.new }

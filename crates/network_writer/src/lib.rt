@@ -1,6 +1,6 @@
-// Lines written one after another into a buffer, as far as there is room. The length of the text is known in any case,
-// so a text is measured by putting it where there is no room. A plan's text is put that way from a table of its
-// numbers.
+// Lines written one after another into a buffer, as far as there is room. The length of the text is
+// known in any case, so a text is measured by putting it where there is no room. A plan's text is
+// put that way from a table of its numbers.
 #![tactic(auto)]
 
 ghost use Rattle.std.specs.Prelude.{ℕ, ◌≡◌, ◌≤◌, ◌<◌, List, length};
@@ -24,7 +24,8 @@ pub struct Output<'a> {
 }
 
 impl Output<'_> {
-    // Writes a line of these numbers if it ends within the buffer; moves the place past it in any case.
+    // Writes a line of these numbers if it ends within the buffer; moves the place past it in any
+    // case.
     pub fn put_line(&mut self, letter: u8, row: &[u32])
         requires { (length row.now ≤ line_size) × Early 1 self.old }
         ensures { Put 1 (record_text letter row.now) self.old self.new }
@@ -39,8 +40,8 @@ impl Output<'_> {
         self.at = end;
     }
 
-    // Puts the lines of a table's items in their order, each as `change` returns it; an item for which it returns none
-    // is left out.
+    // Puts the lines of a table's items in their order, each as `change` returns it; an item for
+    // which it returns none is left out.
     pub fn put_rows<const W: usize, T: Into<[u32; W]> + Copy, F: Fn(usize, T) -> Option<T>>(
         &mut self,
         letter: u8,
@@ -60,8 +61,8 @@ impl Output<'_> {
     }
 }
 
-// How many items of a table are not left out. Not by `filter` and `count`: the precondition of `count` can't be shown
-// for a closure that is a parameter.
+// How many items of a table are not left out. Not by `filter` and `count`: the precondition of
+// `count` can't be shown for a closure that is a parameter.
 pub fn count_rows<T: Copy, F: Fn(usize, T) -> Option<T>>(items: &[T], change: F) -> usize
     requires { Asks (F.pre change) items.now }
     ensures { (f : ℕ → List (List ℕ)) → GivesAsMany (F.post change) items.now f → result ≡ length (rows_to (length items.now) f) }
@@ -73,7 +74,8 @@ pub fn count_rows<T: Copy, F: Fn(usize, T) -> Option<T>>(items: &[T], change: F)
     count
 }
 
-// Where the columns of what is admitted, let out and moved start in a step's row of a plan's table, after the masks.
+// Where the columns of what is admitted, let out and moved start in a step's row of a plan's table,
+// after the masks.
 pub const ADMITTED_AT: usize = MAX_SIGNALS;
 
 pub const LET_OUT_AT: usize = MAX_SIGNALS + MAX_LINKS;
@@ -109,7 +111,8 @@ fn fill_line(row: &[u32], counts: Counts, line: &mut [u32])
     }
 }
 
-// Writes a plan's text at the beginning of a buffer: its lines as far as they fit; returns its length.
+// Writes a plan's text at the beginning of a buffer: its lines as far as they fit; returns its
+// length.
 fn put_plan<const C: usize>(rows: &[[u32; C]], counts: Counts, out: &mut [u8]) -> usize
     requires { PlanAsked rows.now counts }
     ensures { PutWhole (plan_lines rows.now counts) out.old out.new result }
@@ -124,9 +127,9 @@ fn put_plan<const C: usize>(rows: &[[u32; C]], counts: Counts, out: &mut [u8]) -
     output.at
 }
 
-// Writes a text by `put`, which puts it at the beginning of a buffer as far as there is room, and returns its length.
-// The text is first measured in a buffer without room for any line. If `out` is too short it is unchanged, and the
-// refusal has this reason.
+// Writes a text by `put`, which puts it at the beginning of a buffer as far as there is room, and
+// returns its length. The text is first measured in a buffer without room for any line. If `out` is
+// too short it is unchanged, and the refusal has this reason.
 pub fn write_measured<F: Fn(&mut [u8]) -> usize>(
     reason: Reason,
     out: &mut [u8],
@@ -144,9 +147,9 @@ pub fn write_measured<F: Fn(&mut [u8]) -> usize>(
     Ok(length)
 }
 
-// Writes a plan's text by a table with a row for each step: refusal 24 where the buffer is too short. Rows and counts
-// are two parameters, not a struct with the fact `PlanAsked` (a row for each step): each caller would make it for this
-// call alone.
+// Writes a plan's text by a table with a row for each step: refusal 24 where the buffer is too
+// short. Rows and counts are two parameters, not a struct with the fact `PlanAsked` (a row for each
+// step): each caller would make it for this call alone.
 pub fn write_plan<const C: usize>(
     rows: &[[u32; C]],
     counts: Counts,

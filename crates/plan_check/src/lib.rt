@@ -1,4 +1,5 @@
-// The plan check: the call `check_plan`, and the judging of a plan on a network that has passed, for other calls.
+// The plan check: the call `check_plan`, and the judging of a plan on a network that has passed,
+// for other calls.
 #![tactic(auto)]
 
 ghost use Rattle.std.specs.Prelude.{◌≡◌, length};
@@ -15,9 +16,10 @@ use model::Totals;
 use network::{Room, Start};
 use network_tables::{NetworkTables, row_start};
 
-// Judges a plan on a network that has passed: the ledger's length, then the steps. `start` moves on with the steps. The
-// four parameters are not a struct: two are read and two are written, and each caller has them apart. Their types do
-// not say that the tables are loaded, since that speaks of the start too, which changes.
+// Judges a plan on a network that has passed: the ledger's length, then the steps. `start` moves on
+// with the steps. The four parameters are not a struct: two are read and two are written, and each
+// caller has them apart. Their types do not say that the tables are loaded, since that speaks of
+// the start too, which changes.
 pub fn judge_loaded(
     plan: &[u8],
     tables: &NetworkTables,
@@ -34,7 +36,8 @@ pub fn judge_loaded(
     plan_steps::run_steps(plan, tables, start, ledger)
 }
 
-// Check a plan: refusals 1 to 6, 8 to 18, and 25 to 30. A refusal writes only row 0 and the rows of steps that had passed.
+// Check a plan: refusals 1 to 6, 8 to 18, and 25 to 30. A refusal writes only row 0 and the rows of
+// steps that had passed.
 pub fn check_plan(network: &[u8], plan: &[u8], ledger: &mut [u32]) -> Result<Totals, Refusal>
     ensures value { result ≡ check_plan (lines network.now) (plan_of network.now plan.now) (length ledger.old) }
     ensures ledger_after { ledger.new ≡ ledger_after (lines network.now) (plan_of network.now plan.now) ledger.old }

@@ -26,8 +26,8 @@ pub enum Order {
 }
 
 impl Order {
-    // Its number in answers. A `match`, not discriminants: with these, a wrong program that gives two variants one
-    // number would not compile, and so would test no proof.
+    // Its number in answers. A `match`, not discriminants: with these, a wrong program that gives
+    // two variants one number would not compile, and so would test no proof.
     pub fn number(self) -> u32
         ensures { result ≡ order_number self }
     {
@@ -40,7 +40,8 @@ impl Order {
     }
 }
 
-// How two accepted plans compare: their order, and the doubled time of the first minus that of the second.
+// How two accepted plans compare: their order, and the doubled time of the first minus that of the
+// second.
 #[derive(Clone, Copy)]
 pub struct Comparison {
     pub order: Order,
@@ -77,7 +78,8 @@ impl ComparisonRefusal {
     }
 }
 
-// What a plan has let out up to a boundary, where the line of the next step starts, and whether it was never fewer than the other plan's.
+// What a plan has let out up to a boundary, where the line of the next step starts, and whether it
+// was never fewer than the other plan's.
 #[derive(Clone, Copy)]
 struct LetOut {
     at: usize,
@@ -92,7 +94,8 @@ const NOTHING: LetOut = LetOut {
     never_fewer: true,
 };
 
-// What a plan has let out up to the next boundary. An empty text means hold, and lets nothing out; the lines of another have passed, so that each is read.
+// What a plan has let out up to the next boundary. An empty text means hold, and lets nothing out;
+// the lines of another have passed, so that each is read.
 fn next_boundary(plan: &[u8], so_far: LetOut, counts: Counts) -> LetOut
     requires { NextAsked counts plan.now so_far }
     ensures { NextGot counts plan.now so_far result }
@@ -122,8 +125,8 @@ fn order_by(first: bool, second: bool) -> Order
     }
 }
 
-// The order of two plan texts, by one pass over both. The ledgers don't have these volumes: what has left a link was
-// let out or moved.
+// The order of two plan texts, by one pass over both. The ledgers don't have these volumes: what
+// has left a link was let out or moved.
 fn order_of_texts(first: &[u8], second: &[u8], counts: Counts) -> Order
     requires { Formed counts first.now × Formed counts second.now }
     ensures { result ≡ lines_order counts first.now second.now }
@@ -147,7 +150,8 @@ fn gap_between(first: u64, second: u64) -> i64
     first as i64 - second as i64
 }
 
-// Compares two plans on a network that has passed: all refusals of the first, then those of the second. Each begins with the same start.
+// Compares two plans on a network that has passed: all refusals of the first, then those of the
+// second. Each begins with the same start.
 fn compare_on_network(
     tables: &NetworkTables,
     first: &[u8],
@@ -175,7 +179,8 @@ fn compare_on_network(
     })
 }
 
-// Compare two plans: the network's refusals, then all of the first plan's, then the second's. The second plan's ledger is written only once the first is accepted.
+// Compare two plans: the network's refusals, then all of the first plan's, then the second's. The
+// second plan's ledger is written only once the first is accepted.
 pub fn compare_plans(
     network: &[u8],
     first: &[u8],

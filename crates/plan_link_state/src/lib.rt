@@ -14,9 +14,10 @@ use network::Room;
 use network_tables::{MAX_SIGNALS, NetworkTables};
 use step_past::Arrival;
 
-// What has arrived at a link's end × the length of the step in which the travel time ends; that length; and whether the
-// entered count does not fall over a step inside which it ends. `rises` is a field, not an `Option` around the others:
-// it is one of several tests of 21, and the numbers are there whatever it says.
+// What has arrived at a link's end × the length of the step in which the travel time ends; that
+// length; and whether the entered count does not fall over a step inside which it ends. `rises` is
+// a field, not an `Option` around the others: it is one of several tests of 21, and the numbers are
+// there whatever it says.
 #[derive(Clone, Copy)]
 struct Arrived {
     scaled: u64,
@@ -24,8 +25,9 @@ struct Arrived {
     rises: bool,
 }
 
-// What had entered link `i` by the start and by the end of the timeline's step in which its travel time before boundary
-// `n` ends: before time 0 from the network alone, from then on from the ledger.
+// What had entered link `i` by the start and by the end of the timeline's step in which its travel
+// time before boundary `n` ends: before time 0 from the network alone, from then on from the
+// ledger.
 fn entered_over(tables: &NetworkTables, ledger: &[u32], n: usize, i: usize, step: usize) -> Arrival
     requires { OverAsked tables.now ledger.now n i step }
     ensures { EnteredOver (lines tables.now.text.now) ledger.now n i result }
@@ -74,7 +76,8 @@ fn arrived_by(tables: &NetworkTables, ledger: &[u32], n: usize, i: usize) -> Arr
     }
 }
 
-// Refusal 21, for which arrived is not rounded; or the vehicles queued, rounded down, and in transit.
+// Refusal 21, for which arrived is not rounded; or the vehicles queued, rounded down, and in
+// transit.
 fn state_from(entered: u32, left: u32, arrived: Arrived) -> Result<LinkState, Refusal>
     requires { 1 ≤ arrived.seconds }
     ensures { result ≡ state_from entered left arrived }
@@ -116,7 +119,8 @@ fn state_by(
     state_from(entered, left, arrived_by(tables, ledger, n, i))
 }
 
-// State of one link at a boundary: refusals 1 to 6, 28 and 30 of the network, 8 of the ledger, then 19, 20 and 21.
+// State of one link at a boundary: refusals 1 to 6, 28 and 30 of the network, 8 of the ledger, then
+// 19, 20 and 21.
 pub fn link_state(
     network: &[u8],
     ledger: &[u32],

@@ -1,4 +1,5 @@
-// The steps of a plan, taken one after another: each is read, judged and, where every rule is kept, written into the ledger.
+// The steps of a plan, taken one after another: each is read, judged and, where every rule is kept,
+// written into the ledger.
 #![tactic(auto)]
 
 ghost use Rattle.std.specs.Prelude.{◌≡◌, ◌+◌, ◌*◌, ◌≤◌};
@@ -19,7 +20,8 @@ use network_tables::{
 use step_past::Arrival;
 use step_rows::Step;
 
-// How far both texts are read: up to a boundary, where the `S` and the `P` line of the next step start.
+// How far both texts are read: up to a boundary, where the `S` and the `P` line of the next step
+// start.
 #[derive(Clone, Copy)]
 pub struct Place {
     pub boundary: usize,
@@ -40,8 +42,9 @@ impl Place {
     }
 }
 
-// The state at a boundary: the place of the next step's lines, the totals so far, and how many wait outside.
-// The signals stand beside it, in a lent table, from which each is judged and stepped on by value: in the state, each step would copy eight of 88 bytes.
+// The state at a boundary: the place of the next step's lines, the totals so far, and how many wait
+// outside. The signals stand beside it, in a lent table, from which each is judged and stepped on
+// by value: in the state, each step would copy eight of 88 bytes.
 #[derive(Clone, Copy)]
 pub struct State {
     pub place: Place,
@@ -49,9 +52,10 @@ pub struct State {
     pub outside: u64,
 }
 
-// What the lines of a step say: the numbers of its `S` line and of its `P` line, the phases that are shown, and those
-// that trams ask. While a plan is judged, those who wait are added to each demand. `take_steps` lends one from step to
-// step, so that it is not cleared each time; a sheet's check makes one for each step.
+// What the lines of a step say: the numbers of its `S` line and of its `P` line, the phases that
+// are shown, and those that trams ask. While a plan is judged, those who wait are added to each
+// demand. `take_steps` lends one from step to step, so that it is not cleared each time; a sheet's
+// check makes one for each step.
 #[derive(Drop, Default)]
 pub struct Lines {
     pub step: [u32; STEP_SIZE],
@@ -68,7 +72,8 @@ pub struct Run<'a> {
     pub trams: &'a [Tram],
 }
 
-// Length × (vehicles under way at the step's start + at its end). It requires at most 60 seconds, as step_signals does.
+// Length × (vehicles under way at the step's start + at its end). It requires at most 60 seconds,
+// as step_signals does.
 fn travel_time(seconds: u32, start: u64, end: u64) -> u64
     requires { (seconds ≤ 60) × (start ≤ 192220015080) × (end ≤ 192220015080) }
     ensures { (result ≡ seconds * (start + end)) × (result ≤ 23066401809600) }
@@ -76,7 +81,8 @@ fn travel_time(seconds: u32, start: u64, end: u64) -> u64
     u64::from(seconds) * (start + end)
 }
 
-// The totals with one step more. What is inside changes by what the step admits and lets out; those who wait outside, so many before the step and after it, are in its travel time alone.
+// The totals with one step more. What is inside changes by what the step admits and lets out; those
+// who wait outside, so many before the step and after it, are in its travel time alone.
 fn add_step(
     totals: Totals,
     before: u64,
@@ -119,8 +125,8 @@ fn first_state(tables: &NetworkTables, waiting: &[u32], row: &[u32]) -> State
     }
 }
 
-// The state after a step that keeps every rule; moves on the signals and those who wait. `state` already has the place
-// of the next lines.
+// The state after a step that keeps every rule; moves on the signals and those who wait. `state`
+// already has the place of the next lines.
 fn next_state(
     state: State,
     lines: &Lines,
@@ -156,9 +162,10 @@ fn next_state(
     }
 }
 
-// Reads the numbers of a step's `P` line. An empty text means hold: each signal keeps its phase, and every volume is 0,
-// as it already is in `line`. Signals and counts are two parameters here and in `next_state`: the table has room for
-// eight signals, and the counts say how many there are and how wide the line is.
+// Reads the numbers of a step's `P` line. An empty text means hold: each signal keeps its phase,
+// and every volume is 0, as it already is in `line`. Signals and counts are two parameters here and
+// in `next_state`: the table has room for eight signals, and the counts say how many there are and
+// how wide the line is.
 pub fn read_line(
     plan: &[u8],
     at: usize,
@@ -177,8 +184,9 @@ pub fn read_line(
 }
 
 impl Run<'_> {
-    // Reads the lines of the next step, and finds the phases that signals show and trams ask. Returns the place after
-    // the lines; none if the `P` line is malformed. Inlined, for check_plan's speed (docs/MEASUREMENTS.md).
+    // Reads the lines of the next step, and finds the phases that signals show and trams ask.
+    // Returns the place after the lines; none if the `P` line is malformed. Inlined, for
+    // check_plan's speed (docs/MEASUREMENTS.md).
     #[inline(always)]
     pub fn read_lines(&self, place: Place, signals: &[Signal], lines: &mut Lines) -> Option<Place>
         requires { ReadAsked self.now place signals.now lines.old }
@@ -203,9 +211,9 @@ impl Run<'_> {
         })
     }
 
-    // Takes the next step: reads its lines, judges it and, if every rule is kept, writes the row after it into the
-    // ledger and returns the state there. The five tables that a step changes are lent one by one: a struct of them
-    // would be taken apart again in each call of the step.
+    // Takes the next step: reads its lines, judges it and, if every rule is kept, writes the row
+    // after it into the ledger and returns the state there. The five tables that a step changes are
+    // lent one by one: a struct of them would be taken apart again in each call of the step.
     fn take_step(
         &self,
         state: State,
@@ -264,9 +272,9 @@ fn finish(plan: &[u8], at: usize, steps: usize, totals: Totals) -> Result<Totals
     Ok(totals)
 }
 
-// Writes row 0 and takes the first `steps` steps, up to the first that is refused. Moves on the signals and the
-// arrivals of `start`. Returns the state after the last step; `start` then has the signals there, and `waiting` those
-// who wait there.
+// Writes row 0 and takes the first `steps` steps, up to the first that is refused. Moves on the
+// signals and the arrivals of `start`. Returns the state after the last step; `start` then has the
+// signals there, and `waiting` those who wait there.
 pub fn take_steps(
     plan: &[u8],
     tables: &NetworkTables,
@@ -280,7 +288,8 @@ pub fn take_steps(
 {
     let mut room = [Tram::default(); MAX_TRAMS];
     let trams = network_trams::load_trams(tables, &mut room);
-    // A copy of row 0, which the compiler knows not to lie in the ledger: else the library would need memmove.
+    // A copy of row 0, which the compiler knows not to lie in the ledger: else the library would
+    // need memmove.
     let row = start.row;
     let Start {
         signals,

@@ -1,4 +1,5 @@
-// Checks the plan of `plan.tsv` on the network of `network.tsv`, both in the folder that it is run in.
+// Checks the plan of `plan.tsv` on the network of `network.tsv`, both in the folder that it is run
+// in.
 #![tactic(auto)]
 
 fn main(rt: HostRuntime) {

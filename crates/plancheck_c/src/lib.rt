@@ -1,5 +1,6 @@
-// The C library: the calls over slices, each a pointer and a length, with answers by value. include/plancheck.h declares them.
-// Each answer is a flat struct that begins with the same three numbers, as C has it, so that each conversion copies those of a refusal by itself.
+// The C library: the calls over slices, each a pointer and a length, with answers by value.
+// include/plancheck.h declares them. Each answer is a flat struct that begins with the same three
+// numbers, as C has it, so that each conversion copies those of a refusal by itself.
 #![tactic(auto)]
 
 ghost use Rattle.std.specs.Prelude.{◌≡◌, length};
@@ -39,7 +40,8 @@ use model::{LinkState, Totals};
 use model_split::Lengths;
 use plan_compare::{Comparison, ComparisonRefusal};
 
-// The answer of a network's check or of a step of vehicles; number 0: the network is valid, the vehicles have moved.
+// The answer of a network's check or of a step of vehicles; number 0: the network is valid, the
+// vehicles have moved.
 #[repr(C)]
 #[derive(Clone, Copy, Default)]
 pub struct NetworkResult {
@@ -182,7 +184,8 @@ impl From<Result<usize, Refusal>> for TextResult {
     }
 }
 
-// The answer of a run of cells; number 0: so many cells, these totals, and the volumes after the last step, 0 past the cells.
+// The answer of a run of cells; number 0: so many cells, these totals, and the volumes after the
+// last step, 0 past the cells.
 #[repr(C)]
 #[derive(Clone, Copy, Default)]
 pub struct CellsResult {
@@ -201,7 +204,8 @@ impl From<Result<CellsRun, Refusal>> for CellsResult {
     fn from(answer: Result<CellsRun, Refusal>) -> CellsResult {
         match answer {
             Ok(run) => {
-                // A variable of its own: the prover does not take an array directly out of another struct.
+                // A variable of its own: the prover does not take an array directly out of another
+                // struct.
                 let volumes = run.volumes;
                 CellsResult {
                     cells: run.cells,
@@ -222,9 +226,9 @@ impl From<Result<CellsRun, Refusal>> for CellsResult {
     }
 }
 
-// The answer of a comparison of two plans; number 0: both are accepted, the first is ahead (order 1), behind (2), equal
-// (3) or crossing (4), and `gap` is its doubled time minus the second's. Otherwise `plan` is the plan that is refused,
-// 0 for the network.
+// The answer of a comparison of two plans; number 0: both are accepted, the first is ahead (order
+// 1), behind (2), equal (3) or crossing (4), and `gap` is its doubled time minus the second's.
+// Otherwise `plan` is the plan that is refused, 0 for the network.
 #[repr(C)]
 #[derive(Clone, Copy, Default)]
 pub struct ComparisonResult {
@@ -310,8 +314,9 @@ pub extern "C" fn plancheck_network_counts(network: &[u8]) -> CountsResult
     ensures number_tells { NumberTells (network_checks (lines network.now)) network_numbers result.number }
     ensures padding_ignored { PaddingIgnored network.now (λ padded. result ≡ counts_result (count_network (lines padded))) }
 {
-    // Not a `From`: that can have no precondition on the counts, which fit by the promise of `count_network`. Not
-    // `..CountsResult::default()` either: the proof of the two returns needs whole literals.
+    // Not a `From`: that can have no precondition on the counts, which fit by the promise of
+    // `count_network`. Not `..CountsResult::default()` either: the proof of the two returns needs
+    // whole literals.
     match network::count_network(network) {
         Ok(counts) => CountsResult {
             number: 0,

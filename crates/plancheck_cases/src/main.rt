@@ -1,4 +1,5 @@
-// Runs the program's function on stored folders: the cases c1 to c11 of the paper, c1 with a past, and files that are missing, not to be read, too long, or as long as can be.
+// Runs the program's function on stored folders: the cases c1 to c11 of the paper, c1 with a past,
+// and files that are missing, not to be read, too long, or as long as can be.
 #![tactic(auto)]
 
 // Each case's name, its network's file and its plan's.
@@ -59,7 +60,8 @@ const CASES: [(&str, &str, &str); 23] = [
     ),
 ];
 
-// Prints each case's name, and then what the program prints of its two files. Nothing is done about an output that takes no more.
+// Prints each case's name, and then what the program prints of its two files. Nothing is done about
+// an output that takes no more.
 fn main(rt: HostRuntime) {
     for (name, network, plan) in CASES {
         let _ = rt.println(name);

@@ -1,4 +1,5 @@
-// Reads the two files of a plan's check and prints what the proved library writes of them: only reading the files and writing the bytes is not proved.
+// Reads the two files of a plan's check and prints what the proved library writes of them: only
+// reading the files and writing the bytes is not proved.
 #![tactic(auto)]
 
 ghost use Rattle.std.specs.Prelude.{◌<◌, ◌≤◌, ◌≡◌, length, IfSome};
@@ -24,7 +25,8 @@ fn text_of(buffer: &[u8], read: Option<usize>) -> Option<&[u8]>
     read.map(|n| &buffer[..n])
 }
 
-// Writes the output for two texts, each of which was read or not. The buffer may be longer, as in `write_report`.
+// Writes the output for two texts, each of which was read or not. The buffer may be longer, as in
+// `write_report`.
 fn write_output(network: Option<&[u8]>, plan: Option<&[u8]>, out: &mut [u8]) -> usize
     requires network_length { IfSome network (λ text. length text.now ≤ MAX_NETWORK_SIZE) }
     requires plan_length { IfSome plan (λ text. length text.now ≤ MAX_PLAN_SIZE) }
@@ -38,9 +40,9 @@ fn write_output(network: Option<&[u8]>, plan: Option<&[u8]>, out: &mut [u8]) -> 
     }
 }
 
-// Checks the plan of one file on the network of another, and prints the report, or which of the two was not read. A
-// buffer has room for one byte more than the longest file, which shows that a file is too long. A failed write is
-// ignored.
+// Checks the plan of one file on the network of another, and prints the report, or which of the two
+// was not read. A buffer has room for one byte more than the longest file, which shows that a file
+// is too long. A failed write is ignored.
 pub fn run(rt: &(impl Files + Print), network_path: &str, plan_path: &str) {
     let mut network = [0; MAX_NETWORK_SIZE + 1];
     let mut plan = [0; MAX_PLAN_SIZE + 1];

@@ -1,5 +1,6 @@
-// Reads a whole file into a lent buffer. Nothing can say what a file holds: of a reader whose bytes are known, it is promised that all of them were read,
-// and of any other only how much of the buffer was filled.
+// Reads a whole file into a lent buffer. Nothing can say what a file holds: of a reader whose bytes
+// are known, it is promised that all of them were read, and of any other only how much of the
+// buffer was filled.
 #![tactic(auto)]
 
 ghost use Rattle.std.specs.Prelude.{length};
@@ -9,8 +10,8 @@ use std::fs::File;
 use std::io::Read;
 use std::rt::Files;
 
-// Reads an open file to its end; returns how many bytes there were. None if it can't be read, or if it fills the
-// buffer: then its end was not reached.
+// Reads an open file to its end; returns how many bytes there were. None if it can't be read, or if
+// it fills the buffer: then its end was not reached.
 pub fn read_open<R: Read>(file: &mut R, buffer: &mut [u8]) -> Option<usize>
     ensures within { Within (length buffer.old) result }
     ensures whole { IsWhole (R.remaining file.old) buffer.new result }

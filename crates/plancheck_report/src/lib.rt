@@ -1,5 +1,5 @@
-// Writes what the program `plancheck` prints into a lent buffer: the whole text is proved, and the bytes after it are
-// kept.
+// Writes what the program `plancheck` prints into a lent buffer: the whole text is proved, and the
+// bytes after it are kept.
 #![tactic(auto)]
 
 ghost use Rattle.std.specs.Prelude.{◌≡◌, ◌∷◌, ◌++◌, ◌+◌, ◌≤◌, length};
@@ -31,8 +31,8 @@ pub enum InputFile {
 }
 
 impl InputFile {
-    // Its number in `L` records. A `match`, not discriminants: with these, a wrong program that gives both files one
-    // number would not compile, and so would test no proof.
+    // Its number in `L` records. A `match`, not discriminants: with these, a wrong program that
+    // gives both files one number would not compile, and so would test no proof.
     pub fn number(self) -> u64
         ensures { result ≡ file_number self }
     {
@@ -52,9 +52,10 @@ fn time_of(tables: &NetworkTables, n: usize) -> u32
     tables.times[past + n] - tables.times[past]
 }
 
-// Writes the `B` record of a boundary: its number, its time, and its row of the ledger. Buffer and place are two
-// parameters, as in text_writer. Not network_writer's `Output`: it takes no `u64`, which the totals are, and leaves out
-// a line that has no room, while the contracts here say that all is written.
+// Writes the `B` record of a boundary: its number, its time, and its row of the ledger. Buffer and
+// place are two parameters, as in text_writer. Not network_writer's `Output`: it takes no `u64`,
+// which the totals are, and leaves out a line that has no room, while the contracts here say that
+// all is written.
 fn write_boundary(out: &mut [u8], at: usize, n: usize, time: u32, row: &[u32]) -> usize
     requires { (length row.now ≤ row_size) × (at + 1052 ≤ length out.old) }
     ensures { Wrote (record_text 66 (n ∷ time ∷ row.now)) at out.old out.new result }
@@ -67,7 +68,8 @@ fn write_boundary(out: &mut [u8], at: usize, n: usize, time: u32, row: &[u32]) -
     text_writer::write_record(out, at, b'B', &fields[..end])
 }
 
-// Writes the `B` records of boundaries 0 to K of a plan on a network that has passed. By index: a boundary's row and its time stand in two tables.
+// Writes the `B` records of boundaries 0 to K of a plan on a network that has passed. By index: a
+// boundary's row and its time stand in two tables.
 fn write_rows(out: &mut [u8], at: usize, tables: &NetworkTables, ledger: &[u32]) -> usize
     requires { RowsAsked out.old at tables.now.reading.counts tables.now.times.now ledger.now }
     ensures { Wrote (boundary_texts tables.now.reading.counts tables.now.times.now ledger.now) at out.old out.new result }
@@ -125,7 +127,8 @@ fn write_answer(
     }
 }
 
-// Judges a plan on a network that has passed, and writes the report: the ledger is long enough for every network.
+// Judges a plan on a network that has passed, and writes the report: the ledger is long enough for
+// every network.
 fn write_judged(plan: &[u8], tables: &NetworkTables, start: &mut Start, out: &mut [u8]) -> usize
     requires loaded { StartLoaded tables.now start.old }
     requires in_bounds { OUTPUT_SIZE ≤ length out.old }
@@ -136,7 +139,8 @@ fn write_judged(plan: &[u8], tables: &NetworkTables, start: &mut Start, out: &mu
     write_answer(out, tables, answer, &ledger)
 }
 
-// Writes the report of two texts that were read. A longer buffer is taken too: `&mut [u8; OUTPUT_SIZE]` would ask more of a caller.
+// Writes the report of two texts that were read. A longer buffer is taken too:
+// `&mut [u8; OUTPUT_SIZE]` would ask more of a caller.
 pub fn write_report(network: &[u8], plan: &[u8], out: &mut [u8]) -> usize
     requires { OUTPUT_SIZE ≤ length out.old }
     ensures wrote { Wrote (report network.now plan.now) 0 out.old out.new result }

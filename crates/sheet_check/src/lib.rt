@@ -1,5 +1,6 @@
-// Checks whether an accepted plan keeps a fixed-time sheet (T-10): the call `check_sheet`. The plan's own check comes
-// first; then one pass over its steps watches a few numbers of each signal. No table of runs is kept.
+// Checks whether an accepted plan keeps a fixed-time sheet (T-10): the call `check_sheet`. The
+// plan's own check comes first; then one pass over its steps watches a few numbers of each signal.
+// No table of runs is kept.
 #![tactic(auto)]
 
 ghost use Rattle.std.specs.Prelude.{◌≡◌, ◌<◌, length};
@@ -19,9 +20,9 @@ use network_tables::{MAX_SIGNALS, MAX_TRAMS, NetworkTables, Tram};
 use plan_steps::{Lines, Place, Run};
 use sheet_lines::{SHEET_FIELDS, SheetLine};
 
-// What is watched of a signal: whether the run that it shows is to be tested, the line of its last ordinary step, and
-// the line of its first broken run, 0 for none. Not an `Option`: in the definitions of 34 and in a refusal 0 is none,
-// and each contract would have to exclude `Some(0)`.
+// What is watched of a signal: whether the run that it shows is to be tested, the line of its last
+// ordinary step, and the line of its first broken run, 0 for none. Not an `Option`: in the
+// definitions of 34 and in a refusal 0 is none, and each contract would have to exclude `Some(0)`.
 #[derive(Clone, Copy, Default)]
 pub struct Watch {
     pub tested: bool,
@@ -29,7 +30,8 @@ pub struct Watch {
     pub broken: u32,
 }
 
-// How far the pass over the steps is: the place of the next step's lines, its time, and what is watched of the signals.
+// How far the pass over the steps is: the place of the next step's lines, its time, and what is
+// watched of the signals.
 #[derive(Clone, Copy)]
 pub struct Pass {
     pub place: Place,
@@ -37,8 +39,8 @@ pub struct Pass {
     pub watches: [Watch; MAX_SIGNALS],
 }
 
-// The line of the first broken run after a run of `seconds` has ended; that run is broken if it is tested and
-// `duration` is another.
+// The line of the first broken run after a run of `seconds` has ended; that run is broken if it is
+// tested and `duration` is another.
 fn first_broken(watch: Watch, seconds: u32, duration: u32) -> u32
     ensures { result ≡ first_broken watch seconds duration }
 {
@@ -51,8 +53,8 @@ fn first_broken(watch: Watch, seconds: u32, duration: u32) -> u32
     0
 }
 
-// The watch of a signal after an ordinary step that shows `phase`, has `line` and starts at `time`; `duration` is that
-// of the phase that the signal showed before.
+// The watch of a signal after an ordinary step that shows `phase`, has `line` and starts at `time`;
+// `duration` is that of the phase that the signal showed before.
 fn watch_after(
     watch: Watch,
     signal: &Signal,
@@ -81,8 +83,8 @@ fn duration_of(line: &[u32], signal: &Signal) -> u32
     line[step_signals::place_of(signal.shown)]
 }
 
-// Moves the watches on by a step whose lines say which phases the signals show and trams ask. `signals` are those
-// before it. If a tram asks a phase of a signal, its watch stays.
+// Moves the watches on by a step whose lines say which phases the signals show and trams ask.
+// `signals` are those before it. If a tram asks a phase of a signal, its watch stays.
 fn watch_signals(pass: &mut Pass, signals: &[Signal], said: &Lines, table: &[SheetLine])
     requires { WatchAsked pass.old signals.now said.now table.now }
     ensures { Watched pass.old signals.now (length signals.now) said.now table.now pass.new }
@@ -106,9 +108,9 @@ fn is_earlier(x: u32, y: u32) -> bool
     (x != 0) & ((y == 0) | (x < y))
 }
 
-// Refusal 34: the least of the lines that were found, then the lowest signal. Line and item are 0 for none, as in a
-// watch. A loop: of `min_by_key` only its turns (`ran`) say that the first of equal keys wins, and after a `filter`
-// that did not prove this.
+// Refusal 34: the least of the lines that were found, then the lowest signal. Line and item are 0
+// for none, as in a watch. A loop: of `min_by_key` only its turns (`ran`) say that the first of
+// equal keys wins, and after a `filter` that did not prove this.
 fn check_runs(watches: &[Watch]) -> Result<(), Refusal>
     requires { length watches.now < 4294967296 }
     ensures { result ≡ pass_verdict (λ i. (watch_in watches.now i).broken) (length watches.now) }
@@ -127,7 +129,8 @@ fn check_runs(watches: &[Watch]) -> Result<(), Refusal>
     Err(Reason::SheetRun.refusal(line as usize, item))
 }
 
-// Passes over the next step of an accepted plan. Its lines are read again; none of them is malformed.
+// Passes over the next step of an accepted plan. Its lines are read again; none of them is
+// malformed.
 fn pass_step(run: &Run, table: &[SheetLine], signals: &mut [Signal], mut pass: Pass) -> Pass
     requires { StepAsked run.now table.now signals.old pass }
     ensures { StepGot run.now.tables.now.text.now run.now.plan.now table.now pass result signals.new }
@@ -147,8 +150,8 @@ fn pass_step(run: &Run, table: &[SheetLine], signals: &mut [Signal], mut pass: P
     }
 }
 
-// Refusal 34, by a pass over all steps of an accepted plan. Not inlined, so that its tables are not on the stack while
-// the plan is judged.
+// Refusal 34, by a pass over all steps of an accepted plan. Not inlined, so that its tables are not
+// on the stack while the plan is judged.
 #[inline(never)]
 fn pass_plan(
     plan: &[u8],
@@ -179,7 +182,8 @@ fn pass_plan(
     check_runs(&watches[..reading.counts.signals])
 }
 
-// Judges a plan on a network that has passed, and whether it keeps a sheet: refusals 33, 8, the plan's own, and last 34.
+// Judges a plan on a network that has passed, and whether it keeps a sheet: refusals 33, 8, the
+// plan's own, and last 34.
 fn check_on_network(
     tables: &NetworkTables,
     plan: &[u8],
@@ -199,7 +203,8 @@ fn check_on_network(
     Ok(totals)
 }
 
-// Whether an accepted plan keeps a sheet: refusals 1 to 6, 28 and 30, then 33, 8, the plan's own, and last 34. A refusal by 34 leaves all rows written.
+// Whether an accepted plan keeps a sheet: refusals 1 to 6, 28 and 30, then 33, 8, the plan's own,
+// and last 34. A refusal by 34 leaves all rows written.
 pub fn check_sheet(
     network: &[u8],
     plan: &[u8],

@@ -23,7 +23,8 @@ fn is_within(duration: u32, least: u32, greatest: u32) -> bool
     (least..=greatest).contains(&duration)
 }
 
-// Refusal 33, the numbers of a line. A duration is added only once it is within its limits, so the sum fits.
+// Refusal 33, the numbers of a line. A duration is added only once it is within its limits, so the
+// sum fits.
 fn valid_numbers(line: &[u32], signal: &Signal, offset: bool) -> bool
     requires { NumbersAsked line.now signal.now (from_bool offset) }
     ensures { result ≡ valid_numbers (from_bool offset) signal.now (number_in line.now) }
@@ -40,8 +41,8 @@ fn valid_numbers(line: &[u32], signal: &Signal, offset: bool) -> bool
     !offset || line[phases] < sum
 }
 
-// Reads the line of a signal into a lent line; returns the place of the next line if it is well formed and its numbers
-// are valid.
+// Reads the line of a signal into a lent line; returns the place of the next line if it is well
+// formed and its numbers are valid.
 fn read_line(
     text: &[u8],
     at: usize,
@@ -58,7 +59,8 @@ fn read_line(
     valid_numbers(line, signal, offset).then_some(next)
 }
 
-// Reads the lines of a sheet, one for each signal; they have an offset to write a plan, and none to check one.
+// Reads the lines of a sheet, one for each signal; they have an offset to write a plan, and none to
+// check one.
 pub fn read_sheet(
     text: &[u8],
     signals: &[Signal],

@@ -1,5 +1,5 @@
-// Writes a plan for a fixed-time sheet with offsets (T-10): the call `plan_from_sheet`. The phase that a signal's cycle
-// shows goes from step to step, without a remainder.
+// Writes a plan for a fixed-time sheet with offsets (T-10): the call `plan_from_sheet`. The phase
+// that a signal's cycle shows goes from step to step, without a remainder.
 #![tactic(auto)]
 
 ghost use Rattle.std.specs.Prelude.{◌≡◌, ◌≤◌, length};
@@ -24,8 +24,9 @@ pub struct Run {
     pub remaining: u32,
 }
 
-// The cycle of a signal of so many phases, by its line of a sheet that has passed. The offset stays in the line, after
-// the durations, as in the definitions (`CycleLine`, `phase_at`): two fields would be joined again in every contract.
+// The cycle of a signal of so many phases, by its line of a sheet that has passed. The offset stays
+// in the line, after the durations, as in the definitions (`CycleLine`, `phase_at`): two fields
+// would be joined again in every contract.
 #[derive(Clone, Copy)]
 struct Cycle<'a> {
     line: &'a [u32],
@@ -53,7 +54,8 @@ impl Cycle<'_> {
         }
     }
 
-    // The run after a step that fits it: either it goes on, or it ends with the step and the next phase begins.
+    // The run after a step that fits it: either it goes on, or it ends with the step and the next
+    // phase begins.
     fn next_run(&self, run: Run, seconds: u32) -> Run
         requires { NextAsked self.now.phases run seconds }
         ensures { NextRun (number_in self.now.line.now) self.now.phases run seconds result }
@@ -72,7 +74,8 @@ impl Cycle<'_> {
         }
     }
 
-    // Fills the column of masks of signal `r`, whose cycle it is; none if a run ends inside a step (refusal 35).
+    // Fills the column of masks of signal `r`, whose cycle it is; none if a run ends inside a step
+    // (refusal 35).
     fn fill_column(&self, times: &[u32], r: usize, masks: &mut [[u32; MAX_SIGNALS]]) -> Option<()>
         requires { ColumnAsked times.now r masks.old }
         ensures { ColumnGot (number_in self.now.line.now) self.now.phases times.now r masks.old result masks.new }
@@ -99,8 +102,8 @@ fn has_no_tram(trams: &[Tram], r: usize) -> bool
     trams.iter().all(|tram| tram.signal as usize != r + 1)
 }
 
-// Fills the masks of all steps. Refusal 35, by rising signal: a signal with tram lines, or with a run that ends before
-// the horizon but on no boundary.
+// Fills the masks of all steps. Refusal 35, by rising signal: a signal with tram lines, or with a
+// run that ends before the horizon but on no boundary.
 fn fill_masks(
     trams: &[Tram],
     signals: &[Signal],
@@ -125,7 +128,8 @@ fn fill_masks(
     Ok(())
 }
 
-// Writes the plan of a sheet on a network that has passed, whose `T` lines are read again: refusals 33, 35 and 24.
+// Writes the plan of a sheet on a network that has passed, whose `T` lines are read again: refusals
+// 33, 35 and 24.
 fn write_on_network(
     tables: &NetworkTables,
     signals: &[Signal],

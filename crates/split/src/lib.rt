@@ -13,8 +13,8 @@ use network::Room;
 use network_tables::MAX_SIGNALS;
 use split_tables::{Halves, Whole};
 
-// The buffers of the four texts, lent together. `Lengths` is a type of its own: the names say more than one `Four<T>`
-// would.
+// The buffers of the four texts, lent together. `Lengths` is a type of its own: the names say more
+// than one `Four<T>` would.
 #[derive(Drop)]
 struct FourBuffers<'a> {
     network_1: &'a mut [u8],
@@ -23,8 +23,8 @@ struct FourBuffers<'a> {
     plan_2: &'a mut [u8],
 }
 
-// How long the four texts are: they are put where there is no room. Each text is put twice, since one buffer that is
-// too short leaves all four unchanged, and there is no heap to keep the texts.
+// How long the four texts are: they are put where there is no room. Each text is put twice, since
+// one buffer that is too short leaves all four unchanged, and there is no heap to keep the texts.
 fn measure(whole: &Whole, halves: &Halves) -> Lengths
     requires { WriteAsked whole.now halves.now }
     ensures { Measured whole.now halves.now result }
@@ -42,7 +42,8 @@ fn measure(whole: &Whole, halves: &Halves) -> Lengths
     }
 }
 
-// Whether four buffers of these lengths have room. By `&`, not `&&`: with one return the proof has one case.
+// Whether four buffers of these lengths have room. By `&`, not `&&`: with one return the proof has
+// one case.
 fn has_room(lengths: Lengths, room: Lengths) -> bool
     ensures { result ≡ fits lengths room }
 {
@@ -77,7 +78,8 @@ fn write_halves(
     Ok(lengths)
 }
 
-// The checks on a network that has passed, with the tables of its halves: 40, 41, and the form of the plan's lines.
+// The checks on a network that has passed, with the tables of its halves: 40, 41, and the form of
+// the plan's lines.
 fn judge_halves(whole: &Whole, halves: &Halves) -> Result<(), Refusal>
     requires { Passed whole.now }
     ensures { HalvesJudged whole.now halves.now result }
@@ -113,7 +115,8 @@ fn split_loaded(
     write_halves(whole, &halves, buffers)
 }
 
-// Splits a network and a plan in two, by the set of links in the first half: bit i - 1 for link i. Refusals: the network's (1 to 6, 28, 30), 40, 41, 9, 42.
+// Splits a network and a plan in two, by the set of links in the first half: bit i - 1 for link i.
+// Refusals: the network's (1 to 6, 28, 30), 40, 41, 9, 42.
 pub fn split(
     network: &[u8],
     plan: &[u8],

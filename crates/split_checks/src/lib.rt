@@ -1,5 +1,6 @@
-// Checks whether a network that has passed can be split by the tables of its halves (T-14: 40, 41), and the form of a
-// plan's lines (9). Tests are joined by `&` and `|`, which evaluate both sides: so a function has one return to prove.
+// Checks whether a network that has passed can be split by the tables of its halves (T-14: 40, 41),
+// and the form of a plan's lines (9). Tests are joined by `&` and `|`, which evaluate both sides:
+// so a function has one return to prove.
 #![tactic(auto)]
 
 ghost use Rattle.std.specs.Prelude.{◌≡◌, ◌≤◌, ◌<◌, not, eqb, length};
@@ -26,9 +27,9 @@ fn nobody_waits(links: &[Link]) -> bool
     links.iter().all(|link| link.waiting == 0)
 }
 
-// What the border is judged by: a network's tables, whose movements name links, and those of its first half. The tests
-// take a movement's index, below the count of movements: two of them compare movements by index, and that a movement
-// names links is known by its index.
+// What the border is judged by: a network's tables, whose movements name links, and those of its
+// first half. The tests take a movement's index, below the count of movements: two of them compare
+// movements by index, and that a movement names links is known by its index.
 #[derive(Clone, Copy)]
 struct Border<'a> {
     tables: &'a NetworkTables<'a>,
@@ -37,7 +38,8 @@ struct Border<'a> {
 }
 
 impl Border<'_> {
-    // Whether movement k is j itself, or neither leaves the link that border movement j leaves nor is a border movement into the link that j enters.
+    // Whether movement k is j itself, or neither leaves the link that border movement j leaves nor
+    // is a border movement into the link that j enters.
     fn stands_apart(&self, j: usize, k: usize) -> bool
         requires { (j < self.now.tables.now.reading.counts.movements) × (k < self.now.tables.now.reading.counts.movements) }
         ensures { result ≡ stands_apart_in self.now.tables.now.movements.now self.now.half.now.links j k }
@@ -56,8 +58,8 @@ impl Border<'_> {
         (0..self.tables.reading.counts.movements).all(|k| self.stands_apart(j, k))
     }
 
-    // Whether a movement is no border movement; or leaves a link without signal, with exit rate 0 and without another
-    // movement, and enters a link without another border movement.
+    // Whether a movement is no border movement; or leaves a link without signal, with exit rate 0
+    // and without another movement, and enters a link without another border movement.
     fn right_kind(&self, j: usize) -> bool
         requires { j < self.now.tables.now.reading.counts.movements }
         ensures { result ≡ right_kind_in self.now.tables.now.links.now self.now.tables.now.movements.now self.now.half.now.links self.now.tables.now.reading.counts.movements j }
@@ -147,7 +149,8 @@ pub fn can_split(whole: &Whole, halves: &Halves) -> bool
         & steps_free(whole, first)
 }
 
-// Whether a link is absent from the first half (`number` is 0), or has no signal or one of that half.
+// Whether a link is absent from the first half (`number` is 0), or has no signal or one of that
+// half.
 fn own_signal(half: &HalfTables, number: u32, signal: usize) -> bool
     requires { signal ≤ max_signals }
     ensures { result ≡ own_signal_by half.now number signal }

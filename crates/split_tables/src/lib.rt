@@ -1,4 +1,5 @@
-// The tables of a network's two halves (T-14): the new number of each link, signal and movement in a half, from 1, and 0 for what is not in it.
+// The tables of a network's two halves (T-14): the new number of each link, signal and movement in
+// a half, from 1, and 0 for what is not in it.
 #![tactic(auto)]
 
 ghost use Rattle.std.specs.Prelude.{◌≡◌, ℕ, ◌/◌, ◌^◌, ◌≤◌, ◌<◌, Bool, length};
@@ -12,8 +13,8 @@ ghost use Rattle.split_tables.specs.Halves.{outside_has, HalfTold, HalvesAsked, 
 use model::Signal;
 use network_tables::{Link, MAX_LINKS, MAX_MOVEMENTS, MAX_SIGNALS, Movement, NetworkTables};
 
-// What is split: a network's tables with its text, its signals before the plan, and the text of a plan. All are lent,
-// each with its own lifetime: no table is copied.
+// What is split: a network's tables with its text, its signals before the plan, and the text of a
+// plan. All are lent, each with its own lifetime: no table is copied.
 #[derive(Clone, Copy)]
 pub struct Whole<'p, 't, 's> {
     pub plan: &'p [u8],
@@ -21,8 +22,9 @@ pub struct Whole<'p, 't, 's> {
     pub signals: &'s [Signal],
 }
 
-// One half: the new number of each link, signal and movement of the whole network. 0 stands for what is not in the
-// half: an `Option<u32>` takes 8 bytes, and with tables twice as large `split` takes more than 8 KiB of stack.
+// One half: the new number of each link, signal and movement of the whole network. 0 stands for
+// what is not in the half: an `Option<u32>` takes 8 bytes, and with tables twice as large `split`
+// takes more than 8 KiB of stack.
 #[derive(Clone, Copy, Default)]
 pub struct HalfTables {
     pub links: [u32; MAX_LINKS],
@@ -38,8 +40,8 @@ pub struct Halves {
     pub above: u32,
 }
 
-// Whether a movement is inside the half: both its links have a number there. Its type does not say that it names links,
-// since it is read before it is judged.
+// Whether a movement is inside the half: both its links have a number there. Its type does not say
+// that it names links, since it is read before it is judged.
 fn is_inside(movement: Movement, numbers: &[u32; MAX_LINKS]) -> bool
     requires { LinksNamed movement }
     ensures { result ≡ is_inside movement numbers.now }
@@ -66,8 +68,8 @@ pub fn count_in(numbers: &[u32]) -> usize
     numbers.iter().filter(|number| **number != 0).count()
 }
 
-// Numbers from 1, in their old order, those of the first `count` items that are in a half. By index, which the test
-// takes; the table has room for more items.
+// Numbers from 1, in their old order, those of the first `count` items that are in a half. By
+// index, which the test takes; the table has room for more items.
 fn numbers_where<const N: usize, F: Fn(usize) -> bool>(count: usize, is_in: F) -> [u32; N]
     requires few { (count ≤ N) × (count ≤ max_movements) }
     requires asks { Asks (F.pre is_in) count }
@@ -105,8 +107,9 @@ fn number_half<L: Fn(usize) -> bool, S: Fn(usize) -> bool>(
     }
 }
 
-// Whether a set has link `i`, by its bit. Not `step_signals::opens`, which counts phases from 1 and takes phase 0 with
-// phase 1. Here and below `i` must be below `max_links`, as at `network_tables::demand`.
+// Whether a set has link `i`, by its bit. Not `step_signals::opens`, which counts phases from 1 and
+// takes phase 0 with phase 1. Here and below `i` must be below `max_links`, as at
+// `network_tables::demand`.
 fn in_set(set: u32, i: usize) -> bool
     requires { i < max_links }
     ensures { result ≡ in_set set i }
@@ -122,8 +125,9 @@ fn outside_has(set: u32, links: &[Link], r: usize) -> bool
     links.iter().enumerate().any(|(i, link)| !in_set(set, i) & (link.signal as usize == r + 1))
 }
 
-// Numbers both halves of a network by the set of links in the first. A signal with a link in the second half goes
-// there. Not inlined, and filled in place, so that `split` keeps within its 8 KiB of stack (docs/MEASUREMENTS.md).
+// Numbers both halves of a network by the set of links in the first. A signal with a link in the
+// second half goes there. Not inlined, and filled in place, so that `split` keeps within its 8 KiB
+// of stack (docs/MEASUREMENTS.md).
 #[inline(never)]
 pub fn number_halves(set: u32, tables: &NetworkTables, halves: &mut Halves)
     requires { HalvesAsked tables.now }

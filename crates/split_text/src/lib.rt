@@ -1,6 +1,6 @@
-// Writes the texts of one half of a network and of a plan (T-14) by the half's tables: the numbers of what is in the
-// half, in their old order, with those of border movements added. Lines are written as far as there is room; the place
-// where a text ends is returned in any case.
+// Writes the texts of one half of a network and of a plan (T-14) by the half's tables: the numbers
+// of what is in the half, in their old order, with those of border movements added. Lines are
+// written as far as there is room; the place where a text ends is returned in any case.
 #![tactic(auto)]
 
 ghost use Rattle.std.specs.Prelude.{◌≡◌, ℕ, ◌+◌, ◌≤◌, ◌-◌, ◌<◌, Bool, length, get_or};
@@ -39,8 +39,8 @@ fn signal_number(half: &HalfTables, signal: u32) -> u32
     half.signals[signal as usize - 1]
 }
 
-// Puts the `N` line. Not a `From`: that can have no precondition, and the casts need one on the counts. A count is far
-// below 2 ^ 32: no cast loses anything.
+// Puts the `N` line. Not a `From`: that can have no precondition, and the casts need one on the
+// counts. A count is far below 2 ^ 32: no cast loses anything.
 fn put_counts(counts: Counts, trams: usize, half: &HalfTables, output: &mut Output)
     requires { CountsAsked counts trams × Early 1 output.old }
     ensures { Put 1 (record_text letter_n (count_row counts trams half.now)) output.old output.new }
@@ -79,8 +79,8 @@ fn put_trams(trams: &[Tram], half: &HalfTables, output: &mut Output)
     output.put_rows(b'T', trams, |_, tram| tram_kept(tram, half));
 }
 
-// Puts the `G` lines of the half's signals as they are. carry has the same loop: a method of `Output` would need a
-// contract longer than the loop.
+// Puts the `G` lines of the half's signals as they are. carry has the same loop: a method of
+// `Output` would need a contract longer than the loop.
 fn put_signals(whole: &Whole, half: &HalfTables, output: &mut Output)
     requires { SignalsAsked whole.now output.old }
     ensures { Put whole.now.tables.reading.counts.signals (line_texts letter_g (picked whole.now.tables.reading.counts.signals (is_in half.now.signals) (half_signal_row (whole_network whole.now)))) output.old output.new }
@@ -94,8 +94,9 @@ fn put_signals(whole: &Whole, half: &HalfTables, output: &mut Output)
     }
 }
 
-// A link with its signal's number in the half, and the rates of border movements added to its exit rate; none if the
-// link is not there. `i` must be below `max_links`, as at `network_tables::demand`; `j` below has such a bound too.
+// A link with its signal's number in the half, and the rates of border movements added to its exit
+// rate; none if the link is not there. `i` must be below `max_links`, as at
+// `network_tables::demand`; `j` below has such a bound too.
 fn link_kept(i: usize, link: Link, rates: &[u64; MAX_LINKS], half: &HalfTables) -> Option<Link>
     requires { (i < max_links) × (link.signal ≤ max_signals) }
     ensures { result ≡ link_kept rates.now half.now i link }
@@ -154,8 +155,8 @@ fn put_movements(tables: &NetworkTables, half: &HalfTables, output: &mut Output)
     );
 }
 
-// A number with what the border adds to it. If the sum is too large for a field, it is the greatest number; so the cast
-// loses nothing.
+// A number with what the border adds to it. If the sum is too large for a field, it is the greatest
+// number; so the cast loses nothing.
 fn raised(number: u32, sum: u64) -> u32
     ensures { result ≡ in_field (number + sum) }
 {
@@ -164,8 +165,8 @@ fn raised(number: u32, sum: u64) -> u32
         .min(u64::from(u32::MAX)) as u32
 }
 
-// Adds a movement's number to the sum of a link, counted from 1, if it is a border movement. The test is in here, as in
-// the definition.
+// Adds a movement's number to the sum of a link, counted from 1, if it is a border movement. The
+// test is in here, as in the definition.
 #[tactic(auto, unfolding(crate::specs::Border::added_at))]
 fn add_at(border: bool, link: usize, number: u32, sums: &mut [u64])
     requires { (1 ≤ link) × (link ≤ length sums.old) × (get_or sums.old (link - 1) 0 ≤ 1_000_000_000_000) }
@@ -176,8 +177,8 @@ fn add_at(border: bool, link: usize, number: u32, sums: &mut [u64])
     }
 }
 
-// One of a movement's two links: the one that it leaves, or the one that it enters. Not a closure, as `number_of` is:
-// `add_border` would have to require that it returns a link of the network.
+// One of a movement's two links: the one that it leaves, or the one that it enters. Not a closure,
+// as `number_of` is: `add_border` would have to require that it returns a link of the network.
 #[derive(Clone, Copy)]
 enum Side {
     From,
@@ -215,8 +216,8 @@ fn add_border<F: Fn(usize) -> u32>(
     sums
 }
 
-// Lent numbers of a line, and the place where the next is put. Not an `Output`, which has bytes, and whose place may
-// lie past its end.
+// Lent numbers of a line, and the place where the next is put. Not an `Output`, which has bytes,
+// and whose place may lie past its end.
 #[derive(Drop)]
 struct Row<'a> {
     numbers: &'a mut [u32],
@@ -224,7 +225,8 @@ struct Row<'a> {
 }
 
 impl Row<'_> {
-    // Puts the values of the items of this half in their old order. An item has its number in the half, 0 if absent.
+    // Puts the values of the items of this half in their old order. An item has its number in the
+    // half, 0 if absent.
     fn put_kept<F: Fn(usize) -> u32>(&mut self, items: &[u32], value_of: F)
         requires asked { FillAsked (length items.now) self.old }
         requires asks { Asks (F.pre value_of) (length items.now) }
@@ -240,8 +242,8 @@ impl Row<'_> {
     }
 }
 
-// Reads the numbers of a `P` line that has passed into a line of zeros; returns the place of the next. Not by
-// `read_again`: a plan without bytes has no such line, and its numbers are made.
+// Reads the numbers of a `P` line that has passed into a line of zeros; returns the place of the
+// next. Not by `read_again`: a plan without bytes has no such line, and its numbers are made.
 fn read_plan(whole: &Whole, at: usize, line: &mut [u32]) -> usize
     requires { LineAsked whole.now.signals.now whole.now.tables.reading.counts line.old }
     ensures { PlanLineRead whole.now at line.old result line.new }
@@ -256,8 +258,8 @@ fn read_plan(whole: &Whole, at: usize, line: &mut [u32]) -> usize
     .unwrap_or(at)
 }
 
-// Puts the `S` line of the next step, with the volumes of border movements as demand, and returns the place of the
-// lines after it.
+// Puts the `S` line of the next step, with the volumes of border movements as demand, and returns
+// the place of the lines after it.
 fn put_step(whole: &Whole, half: &HalfTables, place: Place, output: &mut Output) -> Place
     requires { StepAsked whole.now half.now place output.old }
     ensures { StepPut whole.now half.now place output.old output.new result }
@@ -288,8 +290,8 @@ fn put_step(whole: &Whole, half: &HalfTables, place: Place, output: &mut Output)
     }
 }
 
-// Puts the `P` line of the next step, with the volumes of border movements added to what is admitted and let out, and
-// returns the place of the line after it.
+// Puts the `P` line of the next step, with the volumes of border movements added to what is
+// admitted and let out, and returns the place of the line after it.
 fn put_plan_line(whole: &Whole, half: &HalfTables, at: usize, output: &mut Output) -> usize
     requires { PlanLineAsked whole.now half.now at output.old }
     ensures { LinePut whole.now half.now at output.old output.new result }
@@ -343,7 +345,8 @@ pub fn put_plan(whole: &Whole, half: &HalfTables, out: &mut [u8]) -> usize
     output.at
 }
 
-// Writes the half's network at the beginning of a buffer, as far as it fits, and returns its length.
+// Writes the half's network at the beginning of a buffer, as far as it fits, and returns its
+// length.
 pub fn put_network(whole: &Whole, half: &HalfTables, out: &mut [u8]) -> usize
     requires { NetworkAsked whole.now half.now }
     ensures { NetworkPut whole.now half.now out.old out.new result }

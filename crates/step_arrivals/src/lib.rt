@@ -1,5 +1,6 @@
-// When vehicles arrive: the step in which a link's travel time before a boundary ends, and what has arrived by then.
-// Steps and boundaries here are those of the timeline; a table has the times of its boundaries.
+// When vehicles arrive: the step in which a link's travel time before a boundary ends, and what has
+// arrived by then. Steps and boundaries here are those of the timeline; a table has the times of
+// its boundaries.
 #![tactic(auto)]
 
 ghost use Rattle.std.specs.Prelude.{◌≡◌, ◌+◌, ◌-◌, ◌<◌, ◌≤◌, length};
@@ -8,9 +9,9 @@ ghost use Rattle.step_arrivals.specs.Timed.{TimeAsked, TimeSet};
 
 use network_tables::MAX_SECONDS;
 
-// Sets the time at the end of step `m`, if it and all steps before it last 1 to 60 seconds; otherwise the table is
-// unchanged. `timed` says it of the steps before, the result of all: refusal 30 is reported after all lines, so no line
-// is refused for it.
+// Sets the time at the end of step `m`, if it and all steps before it last 1 to 60 seconds;
+// otherwise the table is unchanged. `timed` says it of the steps before, the result of all: refusal
+// 30 is reported after all lines, so no line is refused for it.
 pub fn next_time(times: &mut [u32], m: usize, seconds: u32, timed: bool) -> bool
     requires { TimeAsked times.old m timed }
     ensures { TimeSet times.old m seconds timed result times.new }
@@ -22,9 +23,9 @@ pub fn next_time(times: &mut [u32], m: usize, seconds: u32, timed: bool) -> bool
     valid
 }
 
-// The step in which `boundary`'s time minus the travel time lies. The search starts at the step that was found for an
-// earlier boundary and only moves on, so the work over all steps is linear. The step after the one that is found starts
-// too late; that alone ends the search.
+// The step in which `boundary`'s time minus the travel time lies. The search starts at the step
+// that was found for an earlier boundary and only moves on, so the work over all steps is linear.
+// The step after the one that is found starts too late; that alone ends the search.
 pub fn arrival_step(times: &[u32], from: usize, boundary: usize, travel: u32) -> usize
     requires { Cursor times.now from boundary travel }
     ensures { result ≡ arrival_step_in times.now boundary travel }
@@ -55,7 +56,8 @@ pub fn elapsed(times: &[u32], step: usize, boundary: usize, travel: u32) -> u32
     reached.saturating_sub(times[step])
 }
 
-// What has arrived × the length of the step in which the travel time ends, so that nothing is rounded: `start` had entered by the step's start, `end` by its end.
+// What has arrived × the length of the step in which the travel time ends, so that nothing is
+// rounded: `start` had entered by the step's start, `end` by its end.
 pub fn scaled_arrived(start: u32, end: u32, seconds: u32, elapsed: u32) -> u64
     requires { (seconds ≤ 7200) × (elapsed ≤ 7200) }
     ensures { result ≡ scaled_in start end seconds elapsed }

@@ -1,7 +1,9 @@
-// The judgement of one step of a plan: rules 10 to 18, 25 to 27 and 29 in their order, each over rising items. Most steps keep all of them, which a pass
-// finds. It goes over the signals once. It goes over links and movements twice: to test the limits of their volumes (15, 25 to 27) while it forms the row after the step,
-// and to test the sums of 16 to 18, which read the whole row. Otherwise the rules are searched for the first that is broken; there the row is formed only once the limits
-// are kept, so that its sums fit.
+// The judgement of one step of a plan: rules 10 to 18, 25 to 27 and 29 in their order, each over
+// rising items. Most steps keep all of them, which a pass finds. It goes over the signals once. It
+// goes over links and movements twice: to test the limits of their volumes (15, 25 to 27) while it
+// forms the row after the step, and to test the sums of 16 to 18, which read the whole row.
+// Otherwise the rules are searched for the first that is broken; there the row is formed only once
+// the limits are kept, so that its sums fit.
 #![tactic(auto)]
 
 ghost use Rattle.std.specs.Prelude.{◌≡◌, ◌<◌};
@@ -15,8 +17,8 @@ use step_rows::Step;
 use step_signals::SignalRule;
 use step_sums::{StepRows, SumRule};
 
-// A rule that a step keeps, by its family. A `match`, not a trait: the families take different things, a signal and its
-// phases, a step, or a step with its rows.
+// A rule that a step keeps, by its family. A `match`, not a trait: the families take different
+// things, a signal and its phases, a step, or a step with its rows.
 #[derive(Clone, Copy)]
 enum Rule {
     Signal(SignalRule),
@@ -64,8 +66,8 @@ impl Rule {
         }
     }
 
-    // Whether it holds of an item. The rows are separate parameters, since the rules before the sums are tested before
-    // the row after the step is formed.
+    // Whether it holds of an item. The rows are separate parameters, since the rules before the
+    // sums are tested before the row after the step is formed.
     fn holds(self, step: &Step, previous: &[u32], row: &[u32], item: usize) -> bool
         requires rule_rows { RuleRows step.now previous.now row.now self }
         requires item_bound { item < rule_items step.now.counts self }
@@ -91,8 +93,8 @@ impl Rule {
     }
 }
 
-// Forms the row after the step when the search comes to rule 16. Not before: only then are all limits known to hold, so
-// that the row's numbers fit.
+// Forms the row after the step when the search comes to rule 16. Not before: only then are all
+// limits known to hold, so that the row's numbers fit.
 fn form_row_for(rule: Rule, step: &Step, previous: &[u32], row: &mut [u32])
     requires { rule ≡ first_sum → Fits step.now.counts step.now.plan_line.now step.now.movements.now previous.now row.old }
     ensures { FormedFor rule step.now previous.now row.old row.new }
@@ -102,9 +104,9 @@ fn form_row_for(rule: Rule, step: &Step, previous: &[u32], row: &mut [u32])
     }
 }
 
-// The refusal of the first rule that the step breaks, in the order of the rules, each over rising items; its line is
-// the step's line of the plan. Nested loops with a label that is left at the first break, as the paper asks for rules
-// 10 to 18.
+// The refusal of the first rule that the step breaks, in the order of the rules, each over rising
+// items; its line is the step's line of the plan. Nested loops with a label that is left at the
+// first break, as the paper asks for rules 10 to 18.
 fn first_break(step: &Step, previous: &[u32], row: &mut [u32]) -> Result<(), Refusal>
     requires { JudgeAsked step.now previous.now row.old }
     ensures { StepJudged step.now previous.now row.old result row.new }

@@ -1,5 +1,5 @@
-// Rules 15 and 25 to 27 of the plan check: the limits of the volumes of a step's `P` line, admitted, let out and moved. The pass over
-// them forms the row after the step.
+// Rules 15 and 25 to 27 of the plan check: the limits of the volumes of a step's `P` line,
+// admitted, let out and moved. The pass over them forms the row after the step.
 #![tactic(auto)]
 
 ghost use Rattle.std.specs.Prelude.{◌≡◌, ◌*◌, ◌<◌, ◌≤◌, leb, length, true};
@@ -21,8 +21,8 @@ pub enum LimitRule {
     OpenLink,
 }
 
-// Whether a volume is at most rate × seconds; the product fits 32 bits. That a step has at most 60 seconds is required
-// here, as in step_signals, which says why at its tests of rules 11 to 14.
+// Whether a volume is at most rate × seconds; the product fits 32 bits. That a step has at most 60
+// seconds is required here, as in step_signals, which says why at its tests of rules 11 to 14.
 fn within_rate(volume: u32, rate: u32, seconds: u32) -> bool
     requires { (rate ≤ 10000) × (seconds ≤ 60) }
     ensures { result ≡ leb volume (rate * seconds) }
@@ -30,8 +30,8 @@ fn within_rate(volume: u32, rate: u32, seconds: u32) -> bool
     volume <= rate * seconds
 }
 
-// The tests below take an item's index, and each requires that the step has this item: a struct of step and index would
-// be made for each item.
+// The tests below take an item's index, and each requires that the step has this item: a struct of
+// step and index would be made for each item.
 
 // 15, link i: admitted is at most those at its entry, who wait there or come in the step.
 #[tactic(auto, unfolding(crate::specs::Limits::admits_offer))]
@@ -53,7 +53,8 @@ fn lets_out_rate(step: &Step, i: usize) -> bool
     within_rate(volume, step.links[i].exit_rate, step.step_line[0])
 }
 
-// A link without a signal is always open; another is open if its signal shows a phase of the link's mask.
+// A link without a signal is always open; another is open if its signal shows a phase of the link's
+// mask.
 fn is_open(step: &Step, i: usize) -> bool
     requires limited { Limited step.now }
     requires item_bound { i < step.now.counts.links }
@@ -87,8 +88,8 @@ fn moves_open(step: &Step, j: usize) -> bool
 }
 
 impl LimitRule {
-    // Its number in the paper. A `match`, not discriminants: with these, a wrong program that gives two variants one
-    // number would not compile, and so would test no proof.
+    // Its number in the paper. A `match`, not discriminants: with these, a wrong program that gives
+    // two variants one number would not compile, and so would test no proof.
     pub fn number(self) -> u32
         ensures { result ≡ limit_rule_number self }
     {
@@ -126,7 +127,8 @@ impl LimitRule {
     }
 }
 
-// Whether a movement keeps 26 and 27, as one that is 0 does. By the tests of both a plan took 1 to 2 % more instructions.
+// Whether a movement keeps 26 and 27, as one that is 0 does. By the tests of both a plan took 1 to
+// 2 % more instructions.
 fn moves_within(step: &Step, j: usize) -> bool
     requires limited { Limited step.now }
     requires item_bound { j < step.now.counts.movements }
@@ -170,8 +172,9 @@ fn movements_within_limits(step: &Step, row: &mut [u32]) -> bool
     true
 }
 
-// Whether all limits are kept, by one pass over the links and one over the movements, which form the row after the step meanwhile: with the row formed apart, by
-// `step_rows::next_row`, the largest plan took 6 % more instructions.
+// Whether all limits are kept, by one pass over the links and one over the movements, which form
+// the row after the step meanwhile: with the row formed apart, by `step_rows::next_row`, the
+// largest plan took 6 % more instructions.
 pub fn row_within_limits(step: &Step, previous: &[u32], row: &mut [u32]) -> bool
     requires limited { Limited step.now }
     requires room { (2 * step.now.counts.links ≤ length previous.now) × (length row.old ≡ row_size) }

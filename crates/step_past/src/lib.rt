@@ -1,6 +1,7 @@
-// What entered the links in the past, by the `H` lines: row 0, and for each link what had entered it by the start and by the end
-// of the past step in which its travel time ends. No table of the past is kept: each link has the place of the `H` line that is
-// next for it. Of that line its number alone is read, or the whole line once for all links that it is next for.
+// What entered the links in the past, by the `H` lines: row 0, and for each link what had entered
+// it by the start and by the end of the past step in which its travel time ends. No table of the
+// past is kept: each link has the place of the `H` line that is next for it. Of that line its
+// number alone is read, or the whole line once for all links that it is next for.
 #![tactic(auto)]
 
 ghost use Rattle.std.specs.Prelude.{◌≡◌, ◌+◌, ◌*◌, ◌<◌, ◌≤◌, length};
@@ -9,9 +10,10 @@ ghost use Rattle.step_past.specs.Curves.{CurveAsked, CurveGot, ReadAsked, ReadGo
 
 use network_tables::{Link, NetworkTables, PAST_SIZE};
 
-// What a link is waiting for: the step in which its travel time ends. If that is a past one, also what had entered the
-// link by that step's start and by its end, and the place of the `H` line after it. These three are not an `Option`:
-// with one, check_plan took 126 instructions more on the corridor and 1.2 % more on the largest plan.
+// What a link is waiting for: the step in which its travel time ends. If that is a past one, also
+// what had entered the link by that step's start and by its end, and the place of the `H` line
+// after it. These three are not an `Option`: with one, check_plan took 126 instructions more on the
+// corridor and 1.2 % more on the largest plan.
 #[derive(Clone, Copy, Default)]
 pub struct Arrival {
     pub step: usize,
@@ -52,7 +54,8 @@ impl PastLine<'_> {
     }
 }
 
-// What link `i` waits for at the `H` line of a step, by what it waited for at the one before: of that line its number alone is read.
+// What link `i` waits for at the `H` line of a step, by what it waited for at the one before: of
+// that line its number alone is read.
 fn next_curve(text: &[u8], i: usize, step: usize, arrival: Arrival) -> Arrival
     requires { CurveAsked text.now i step arrival }
     ensures { CurveGot text.now i step result }
@@ -77,7 +80,8 @@ pub fn read_on(text: &[u8], i: usize, from: usize, to: usize, mut arrival: Arriv
     arrival
 }
 
-// A row at the start of the timeline: what stands on each link has entered it, and nothing has left.
+// A row at the start of the timeline: what stands on each link has entered it, and nothing has
+// left.
 fn start_row(links: &[Link], row: &mut [u32])
     requires { 2 * length links.now ≤ length row.old }
     ensures { Started links.now row.old row.new }
@@ -103,7 +107,8 @@ fn find_steps(tables: &NetworkTables, arrivals: &mut [Arrival])
     }
 }
 
-// Keeps what had entered each link whose travel time ends in the line's step, by the row at the step's end. Inlined, for check_plan's speed (docs/MEASUREMENTS.md).
+// Keeps what had entered each link whose travel time ends in the line's step, by the row at the
+// step's end. Inlined, for check_plan's speed (docs/MEASUREMENTS.md).
 #[inline(always)]
 fn keep_curves(line: &PastLine, row: &[u32], arrivals: &mut [Arrival])
     requires { KeepAsked line.now row.now arrivals.old }
@@ -122,8 +127,9 @@ fn keep_curves(line: &PastLine, row: &[u32], arrivals: &mut [Arrival])
     }
 }
 
-// Row 0, by all `H` lines, in the front of `row`; and what each link waits for at boundary 0. `None` where a number of row 0 does not fit 32 bits.
-// Inlined, for check_plan's speed (docs/MEASUREMENTS.md).
+// Row 0, by all `H` lines, in the front of `row`; and what each link waits for at boundary 0.
+// `None` where a number of row 0 does not fit 32 bits. Inlined, for check_plan's speed
+// (docs/MEASUREMENTS.md).
 #[inline(always)]
 pub fn load_past(tables: &NetworkTables, row: &mut [u32], arrivals: &mut [Arrival]) -> Option<()>
     requires { PastAsked tables.now row.old arrivals.old }
@@ -148,8 +154,9 @@ pub fn load_past(tables: &NetworkTables, row: &mut [u32], arrivals: &mut [Arriva
     Some(())
 }
 
-// Moves each link from `first` on by an `H` line to a boundary that is `since` seconds past the start of the line's step, if the link is at the step before and
-// its travel time ends in the line's step or later.
+// Moves each link from `first` on by an `H` line to a boundary that is `since` seconds past the
+// start of the line's step, if the link is at the step before and its travel time ends in the
+// line's step or later.
 fn move_links(
     line: &PastLine,
     tables: &NetworkTables,
@@ -170,8 +177,9 @@ fn move_links(
     }
 }
 
-// Moves link `i`, whose travel time ends in past step `to`, on to the timeline's boundary `at`, by whole `H` lines: a line that is read for it moves the links
-// behind it on too. Not inlined, so that its numbers take no stack where one number is read (docs/MEASUREMENTS.md).
+// Moves link `i`, whose travel time ends in past step `to`, on to the timeline's boundary `at`, by
+// whole `H` lines: a line that is read for it moves the links behind it on too. Not inlined, so
+// that its numbers take no stack where one number is read (docs/MEASUREMENTS.md).
 #[inline(never)]
 fn move_by_lines(tables: &NetworkTables, at: usize, i: usize, to: usize, arrivals: &mut [Arrival])
     requires { PastMoveAsked tables.now at i to arrivals.old }
@@ -195,9 +203,10 @@ fn move_by_lines(tables: &NetworkTables, at: usize, i: usize, to: usize, arrival
     }
 }
 
-// Moves link `i`, whose travel time ends in past step `to`, on to the timeline's boundary `at`. Where the two links behind it wait for the same `H` line, lines are read
-// whole, and move these on too; else of each line the link's number alone is read: to read a line takes as long as to find three of its numbers.
-// Not inlined, for check_plan's speed (docs/MEASUREMENTS.md).
+// Moves link `i`, whose travel time ends in past step `to`, on to the timeline's boundary `at`.
+// Where the two links behind it wait for the same `H` line, lines are read whole, and move these on
+// too; else of each line the link's number alone is read: to read a line takes as long as to find
+// three of its numbers. Not inlined, for check_plan's speed (docs/MEASUREMENTS.md).
 #[inline(never)]
 fn move_past(tables: &NetworkTables, at: usize, i: usize, to: usize, arrivals: &mut [Arrival])
     requires { PastMoveAsked tables.now at i to arrivals.old }
@@ -214,7 +223,8 @@ fn move_past(tables: &NetworkTables, at: usize, i: usize, to: usize, arrivals: &
     }
 }
 
-// Moves link `i` on to the timeline's boundary `at`: the step in which its travel time ends and, as long as that is a past one, its curve.
+// Moves link `i` on to the timeline's boundary `at`: the step in which its travel time ends and, as
+// long as that is a past one, its curve.
 fn move_on(tables: &NetworkTables, at: usize, i: usize, arrivals: &mut [Arrival])
     requires { MoveAsked tables.now at i arrivals.old }
     ensures { Moved tables.now at i arrivals.old arrivals.new }

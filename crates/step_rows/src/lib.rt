@@ -1,6 +1,6 @@
-// A step of a plan as it is judged, the ledger's row after it and how it is written, the sums for the totals, and who
-// waits at the entries. The table of those who wait has one number a link: those who waited at the start or came since,
-// and were not admitted.
+// A step of a plan as it is judged, the ledger's row after it and how it is written, the sums for
+// the totals, and who waits at the entries. The table of those who wait has one number a link:
+// those who waited at the start or came since, and were not admitted.
 #![tactic(auto)]
 
 ghost use Rattle.std.specs.Prelude.{◌≡◌, ◌++◌, ◌+◌, ◌*◌, ◌-◌, ◌/◌, ◌<◌, ◌≤◌, length, take, drop};
@@ -49,8 +49,9 @@ impl Step<'_> {
     }
 }
 
-// Begins a row with link i: what has entered and left it before the step, with what the line admits on it and lets out from it. The sums wrap, here and
-// below: a pass forms the row while it tests the limits by which they fit.
+// Begins a row with link i: what has entered and left it before the step, with what the line admits
+// on it and lets out from it. The sums wrap, here and below: a pass forms the row while it tests
+// the limits by which they fit.
 pub fn begin_link(previous: &[u32], line: &[u32], counts: Counts, i: usize, row: &mut [u32])
     requires { BeginAsked counts line.now previous.now row.old × (i < counts.links) }
     ensures { row.new ≡ with_link counts line.now previous.now i row.old }
@@ -99,8 +100,8 @@ fn base_row(previous: &[u32], line: &[u32], counts: Counts, row: &mut [u32])
     }
 }
 
-// The row after a step, in the front of a lent row, for the search of a broken rule. Only for a line that has passed rules 15 and 25 to 27, whose volumes are small
-// enough for the sums to fit.
+// The row after a step, in the front of a lent row, for the search of a broken rule. Only for a
+// line that has passed rules 15 and 25 to 27, whose volumes are small enough for the sums to fit.
 pub fn next_row(
     previous: &[u32],
     line: &[u32],
@@ -115,8 +116,8 @@ pub fn next_row(
     add_movements(line, movements, counts, row);
 }
 
-// Writes a row into the ledger from index `at` on, through the part of the lent ledger that begins in its middle, as the paper asks; all else
-// is kept.
+// Writes a row into the ledger from index `at` on, through the part of the lent ledger that begins
+// in its middle, as the paper asks; all else is kept.
 pub fn write_row(ledger: &mut [u32], at: usize, row: &[u32])
     requires { at + length row.now ≤ length ledger.old }
     ensures { ledger.new ≡ take at ledger.old ++ (row.now ++ drop (at + length row.now) ledger.old) }
@@ -124,7 +125,8 @@ pub fn write_row(ledger: &mut [u32], at: usize, row: &[u32])
     ledger[at..at + row.len()].copy_from_slice(row);
 }
 
-// The sum of one number a link: what a step admits or lets out on all links, or who waits at all entries.
+// The sum of one number a link: what a step admits or lets out on all links, or who waits at all
+// entries.
 pub fn sum_of(numbers: &[u32]) -> u64
     requires { length numbers.now ≤ max_links }
     ensures { (result ≡ list_sum numbers.now) × (result ≤ 4294967295 * length numbers.now) }
@@ -149,8 +151,9 @@ pub fn all_let_out(line: &[u32], counts: Counts) -> u64
     sum_of(&line[let_out_at..let_out_at + counts.links])
 }
 
-// The vehicles in the network at a boundary: what all links hold, by its row, which has two numbers a link. A loop: in
-// the closure of a sum over the links, the precondition of `entered` on the row can't be shown.
+// The vehicles in the network at a boundary: what all links hold, by its row, which has two numbers
+// a link. A loop: in the closure of a sum over the links, the precondition of `entered` on the row
+// can't be shown.
 pub fn held_in(row: &[u32]) -> u64
     requires { length row.now ≤ 2 * max_links }
     ensures { (result ≡ sum (length row.now / 2) (λ i. entered_in row.now i - left_in row.now i)) × (result ≤ 4294967295 * (length row.now / 2)) }
@@ -162,7 +165,8 @@ pub fn held_in(row: &[u32]) -> u64
     total
 }
 
-// Who waits at the start, as the `Q` lines have it. Not inlined, for check_plan's speed (docs/MEASUREMENTS.md).
+// Who waits at the start, as the `Q` lines have it. Not inlined, for check_plan's speed
+// (docs/MEASUREMENTS.md).
 #[inline(never)]
 pub fn first_waiting(links: &[Link], waiting: &mut [u32])
     requires { FirstAsked links.now waiting.old }
@@ -173,7 +177,8 @@ pub fn first_waiting(links: &[Link], waiting: &mut [u32])
     }
 }
 
-// Who is at the entries in a step: the numbers of its `S` line, with those who wait added to each link's demand.
+// Who is at the entries in a step: the numbers of its `S` line, with those who wait added to each
+// link's demand.
 pub fn add_waiting(waiting: &[u32], step: &mut [u32])
     requires { AddAsked waiting.now step.old }
     ensures { Offers (length waiting.now) waiting.now step.old step.new }
@@ -181,8 +186,8 @@ pub fn add_waiting(waiting: &[u32], step: &mut [u32])
     network_tables::add_each(waiting, &mut step[1..]);
 }
 
-// Who waits after a step that keeps every rule: those who were at the entry in the step and were not admitted. By
-// index: the tables go together, and each starts elsewhere in the line.
+// Who waits after a step that keeps every rule: those who were at the entry in the step and were
+// not admitted. By index: the tables go together, and each starts elsewhere in the line.
 pub fn next_waiting(step: &[u32], line: &[u32], counts: Counts, waiting: &mut [u32])
     requires { WaitsAsked counts step.now line.now waiting.old }
     ensures { Waits counts step.now line.now counts.links waiting.new }

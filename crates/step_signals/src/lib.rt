@@ -1,6 +1,6 @@
-// A signal (the paper's light) through a step: the phase that its mask shows, rules 10, 29 and 11 to 14, and the signal after the step. `asked` is the phase
-// that a tram asks of a signal, 0 in an ordinary step.
-// The definitions stand in specs/ of crate model.
+// A signal (the paper's light) through a step: the phase that its mask shows, rules 10, 29 and 11
+// to 14, and the signal after the step. `asked` is the phase that a tram asks of a signal, 0 in an
+// ordinary step. The definitions stand in specs/ of crate model.
 #![tactic(auto)]
 
 ghost use Rattle.std.specs.Prelude.{◌≡◌, true, ◌-◌, ◌^◌, ◌≤◌, length};
@@ -12,7 +12,8 @@ ghost use Rattle.step_signals.specs.Step.{ShownPhases, HeldMasks, stepped, Advan
 
 use model::Signal;
 
-// A rule of one signal: 10; 29, which a tram's step keeps; and 11 to 14, which an ordinary one keeps.
+// A rule of one signal: 10; 29, which a tram's step keeps; and 11 to 14, which an ordinary one
+// keeps.
 #[derive(Clone, Copy)]
 pub enum SignalRule {
     OnePhase,
@@ -23,9 +24,10 @@ pub enum SignalRule {
     Cycle,
 }
 
-// The phase, among 1 to `phases`, whose bit is all of the mask; 0 where there is none, which breaks rule 10 (C7). The
-// count of ones tests that one bit is set; the trailing zeros are its place. A number, not an `Option`: with tables of
-// options, for what is shown and what trams ask, the largest plan took 2.2 % more instructions.
+// The phase, among 1 to `phases`, whose bit is all of the mask; 0 where there is none, which breaks
+// rule 10 (C7). The count of ones tests that one bit is set; the trailing zeros are its place. A
+// number, not an `Option`: with tables of options, for what is shown and what trams ask, the
+// largest plan took 2.2 % more instructions.
 pub fn phase_of(mask: u32, phases: u32) -> u32
     ensures { result ≡ phase_of mask phases }
 {
@@ -38,8 +40,8 @@ pub fn phase_of(mask: u32, phases: u32) -> u32
     0
 }
 
-// The index of a phase's times and of its bit: k - 1 for phase k. Phase 0, which is none, has the index of phase 1, so
-// that no rule depends on rule 10.
+// The index of a phase's times and of its bit: k - 1 for phase k. Phase 0, which is none, has the
+// index of phase 1, so that no rule depends on rule 10.
 pub fn place_of(phase: u32) -> usize
     ensures { result ≡ phase - 1 }
 {
@@ -64,7 +66,8 @@ pub fn opens(mask: u32, phase: u32) -> bool
     (mask >> place) % 2 == 1
 }
 
-// The phase after one of so many, by cases (C8), as the paper has it: after P comes 1, after any other k comes k + 1. After phase 0, which is none, it is 1.
+// The phase after one of so many, by cases (C8), as the paper has it: after P comes 1, after any
+// other k comes k + 1. After phase 0, which is none, it is 1.
 pub fn phase_after(phase: u32, phases: u32) -> u32
     requires { (phase ≤ phases) × (phases ≤ 8) }
     ensures { result ≡ phase_after phases phase }
@@ -117,8 +120,9 @@ fn clock_after(signal: Signal, phase: u32, seconds: u32) -> u32
     }
 }
 
-// The tests of rules 11 to 14 take the signal by value, as the paper has the light. What they require of it, of the
-// phase and of the seconds stays in each contract: a struct with these facts would replace the light.
+// The tests of rules 11 to 14 take the signal by value, as the paper has the light. What they
+// require of it, of the phase and of the seconds stays in each contract: a struct with these facts
+// would replace the light.
 
 // Rule 11 (C8): the phase is that of the step before or the next.
 fn keeps_order(signal: Signal, phase: u32) -> bool
@@ -137,7 +141,8 @@ fn keeps_least_time(signal: Signal, phase: u32) -> bool
     (phase == signal.shown) | (signal.least[place] <= signal.shown_for)
 }
 
-// Rule 13 (C9 to C13): the seconds of a run, this step included, are at most the phase's greatest time.
+// Rule 13 (C9 to C13): the seconds of a run, this step included, are at most the phase's greatest
+// time.
 fn keeps_greatest_time(signal: Signal, phase: u32, seconds: u32) -> bool
     requires ready { Ready signal }
     requires phase_bound { phase ≤ 8 }
@@ -148,7 +153,8 @@ fn keeps_greatest_time(signal: Signal, phase: u32, seconds: u32) -> bool
     shown_for_after(signal, phase, seconds) <= signal.greatest[place]
 }
 
-// Rule 14 (C15, C16): phase 1 begins again after the least cycle at the earliest; after the step the clock is at most the greatest cycle.
+// Rule 14 (C15, C16): phase 1 begins again after the least cycle at the earliest; after the step
+// the clock is at most the greatest cycle.
 fn keeps_cycle(signal: Signal, phase: u32, seconds: u32) -> bool
     requires ready { Ready signal }
     requires seconds_bound { seconds ≤ 60 }
@@ -173,8 +179,8 @@ fn after(signal: Signal, phase: u32, seconds: u32) -> Signal
 }
 
 impl SignalRule {
-    // Its number in the paper. A `match`, not discriminants: with these, a wrong program that gives two variants one
-    // number would not compile, and so would test no proof.
+    // Its number in the paper. A `match`, not discriminants: with these, a wrong program that gives
+    // two variants one number would not compile, and so would test no proof.
     pub fn number(self) -> u32
         ensures { result ≡ signal_rule_number self }
     {
@@ -206,8 +212,8 @@ impl SignalRule {
     }
 }
 
-// Whether a signal that shows a phase keeps rules 10 to 14, as an ordinary step asks. Phase, asked and seconds are
-// parameters here and below: a struct of them would be made for each signal.
+// Whether a signal that shows a phase keeps rules 10 to 14, as an ordinary step asks. Phase, asked
+// and seconds are parameters here and below: a struct of them would be made for each signal.
 fn keeps_ordinary_rules(signal: Signal, phase: u32, seconds: u32) -> bool
     requires ready { Ready signal }
     requires phase_bound { phase ≤ 8 }
@@ -219,11 +225,11 @@ fn keeps_ordinary_rules(signal: Signal, phase: u32, seconds: u32) -> bool
     (1 <= phase) & ordered & timed
 }
 
-// Whether a signal goes on with its phase, and neither the phase nor the cycle lasts too long. Then it keeps rules 10
-// to 14, as most signals do in most steps: without this test the largest plan took 3.7 % more instructions. The sums
-// are written out: with rule 13's own test it took 1.2 % more, and rule 14's own test does more, since it also looks
-// whether phase 1 begins again. The phase's greatest time stands beside the signal: found in the copy, it took 0.8 %
-// more.
+// Whether a signal goes on with its phase, and neither the phase nor the cycle lasts too long. Then
+// it keeps rules 10 to 14, as most signals do in most steps: without this test the largest plan
+// took 3.7 % more instructions. The sums are written out: with rule 13's own test it took 1.2 %
+// more, and rule 14's own test does more, since it also looks whether phase 1 begins again. The
+// phase's greatest time stands beside the signal: found in the copy, it took 0.8 % more.
 fn goes_on(signal: Signal, greatest: u32, phase: u32, seconds: u32) -> bool
     requires ready { Ready signal }
     requires of_phase { greatest ≡ greatest_time signal phase }
@@ -235,8 +241,9 @@ fn goes_on(signal: Signal, greatest: u32, phase: u32, seconds: u32) -> bool
     goes & in_time & (signal.cycle_clock + seconds <= signal.greatest_cycle)
 }
 
-// Whether a signal keeps all six rules: 10 and 29 if a tram asks a phase of it, otherwise 10 to 14, with the short test
-// first whether it goes on. It alone lends the signal: by value, the plan with trams in every step took 0.4 % more.
+// Whether a signal keeps all six rules: 10 and 29 if a tram asks a phase of it, otherwise 10 to 14,
+// with the short test first whether it goes on. It alone lends the signal: by value, the plan with
+// trams in every step took 0.4 % more.
 fn signal_keeps(signal: &Signal, phase: u32, asked: u32, seconds: u32) -> bool
     requires ready { Ready signal.now }
     requires phase_bound { phase ≤ 8 }
@@ -250,8 +257,8 @@ fn signal_keeps(signal: &Signal, phase: u32, asked: u32, seconds: u32) -> bool
     goes_on(*signal, greatest, phase, seconds) || keeps_ordinary_rules(*signal, phase, seconds)
 }
 
-// Whether all signals keep the six rules, in one pass over them: if none is broken, the order of the rules doesn't
-// matter. By index: three tables go together, which have room for eight signals.
+// Whether all signals keep the six rules, in one pass over them: if none is broken, the order of
+// the rules doesn't matter. By index: three tables go together, which have room for eight signals.
 pub fn keeps_signal_rules(
     signals: &[Signal],
     count: usize,
@@ -275,7 +282,8 @@ pub fn shown_phases(signals: &[Signal], count: usize, masks: &[u32], phases: &mu
     }
 }
 
-// The masks by which each signal keeps its phase, in front of a line's numbers. Not inlined, for check_plan's speed (docs/MEASUREMENTS.md).
+// The masks by which each signal keeps its phase, in front of a line's numbers. Not inlined, for
+// check_plan's speed (docs/MEASUREMENTS.md).
 #[inline(never)]
 pub fn hold_masks(signals: &[Signal], line: &mut [u32])
     requires few_signals { (length signals.now ≤ max_signals) × (length signals.now ≤ length line.old) }
@@ -287,8 +295,8 @@ pub fn hold_masks(signals: &[Signal], line: &mut [u32])
     }
 }
 
-// Steps the signals on, by a step that shows these phases. Where a tram asks a phase of a signal, its run and its clock stand still, and it goes on from the phase
-// before the tram.
+// Steps the signals on, by a step that shows these phases. Where a tram asks a phase of a signal,
+// its run and its clock stand still, and it goes on from the phase before the tram.
 pub fn advance(signals: &mut [Signal], count: usize, phases: &[u32], asked: &[u32], seconds: u32)
     requires { AdvanceAsked signals.old count phases.now asked.now seconds }
     ensures { Advanced signals.old count phases.now asked.now seconds signals.new }

@@ -1,4 +1,5 @@
-// Rules 16 to 18 of the plan check, by sums of volumes: shares, arrivals and capacities, once the row after the step is formed.
+// Rules 16 to 18 of the plan check, by sums of volumes: shares, arrivals and capacities, once the
+// row after the step is formed.
 #![tactic(auto)]
 
 ghost use Rattle.std.specs.Prelude.{◌≡◌, ◌+◌, ◌<◌, true};
@@ -8,7 +9,8 @@ ghost use Rattle.step_sums.specs.Sums.{keeps_share, entered_before, entered_afte
 use network_tables::{Counts, WHOLE_SHARE, entered, entered_at, left, let_out, moved};
 use step_rows::Step;
 
-// What rules 16 to 18 read: a step, the row before it, and the row after it, in which left of each link is what the step's line makes of it.
+// What rules 16 to 18 read: a step, the row before it, and the row after it, in which left of each
+// link is what the step's line makes of it.
 #[derive(Clone, Copy)]
 pub struct StepRows<'a> {
     pub step: &'a Step<'a>,
@@ -17,7 +19,8 @@ pub struct StepRows<'a> {
     ghost rows: { SumRows step.now previous.now row.now },
 }
 
-// A rule of sums: 16 of a movement's share, 17 of what has arrived at a link's end, and 18 of a link's capacity.
+// A rule of sums: 16 of a movement's share, 17 of what has arrived at a link's end, and 18 of a
+// link's capacity.
 #[derive(Clone, Copy)]
 pub enum SumRule {
     Share,
@@ -26,7 +29,8 @@ pub enum SumRule {
 }
 
 impl StepRows<'_> {
-    // Each test below requires that the step has its item, as those of `step_limits` do, for the same reason.
+    // Each test below requires that the step has its item, as those of `step_limits` do, for the
+    // same reason.
 
     // The sum of all movements from link i: what has left it in the step, without what was let out.
     fn moved_from(&self, i: usize) -> u32
@@ -37,8 +41,8 @@ impl StepRows<'_> {
         left(self.row, i) - left(self.previous, i) - let_out
     }
 
-    // Rule 16, movement j: 1000 × the movement is at most its share × the sum of all movements from its link. Most
-    // movements are 0, and a 0 keeps every share.
+    // Rule 16, movement j: 1000 × the movement is at most its share × the sum of all movements from
+    // its link. Most movements are 0, and a 0 keeps every share.
     fn keeps_share(&self, j: usize) -> bool
         requires { j < self.now.step.now.counts.movements }
         ensures { result ≡ keeps_share self.now.step.now j }
@@ -52,8 +56,8 @@ impl StepRows<'_> {
         network_tables::product(WHOLE_SHARE, volume) <= network_tables::product(share, all)
     }
 
-    // entered of link i at the start of the timeline's step in which its travel time ends: of a past step from
-    // `arrivals`, of a later one from the ledger.
+    // entered of link i at the start of the timeline's step in which its travel time ends: of a
+    // past step from `arrivals`, of a later one from the ledger.
     fn entered_before(&self, i: usize) -> u32
         requires { i < self.now.step.now.counts.links }
         ensures { result ≡ entered_before self.now.step.now i }
@@ -67,8 +71,8 @@ impl StepRows<'_> {
         entered_at(step.ledger, step.counts.links, boundary, i)
     }
 
-    // entered of link i at the end of that step: of a past step from `arrivals`; of the step that is judged from the
-    // row after it, of an earlier one from the ledger.
+    // entered of link i at the end of that step: of a past step from `arrivals`; of the step that
+    // is judged from the row after it, of an earlier one from the ledger.
     fn entered_after(&self, i: usize) -> u32
         requires { i < self.now.step.now.counts.links }
         ensures { result ≡ entered_after self.now.step.now self.now.row.now i }
@@ -85,9 +89,9 @@ impl StepRows<'_> {
         entered_at(step.ledger, step.counts.links, boundary + 1, i)
     }
 
-    // Rule 17, link i: what has left it is at most what has arrived at its end, both × the length of the step in which
-    // the travel time ends, so that nothing is rounded. All that had entered by that step's start has arrived; often
-    // that is enough, and no product is needed.
+    // Rule 17, link i: what has left it is at most what has arrived at its end, both × the length
+    // of the step in which the travel time ends, so that nothing is rounded. All that had entered
+    // by that step's start has arrived; often that is enough, and no product is needed.
     fn leaves_arrived(&self, i: usize) -> bool
         requires { i < self.now.step.now.counts.links }
         ensures { result ≡ leaves_arrived self.now.step.now self.now.row.now i }
@@ -111,7 +115,8 @@ impl StepRows<'_> {
             <= step_arrivals::scaled_arrived(start, end, seconds, elapsed)
     }
 
-    // Rule 18, link i: entered − left before the step is at most capacity, written without the subtraction.
+    // Rule 18, link i: entered − left before the step is at most capacity, written without the
+    // subtraction.
     fn fits_capacity(&self, i: usize) -> bool
         requires { i < self.now.step.now.counts.links }
         ensures { result ≡ fits_capacity self.now.step.now self.now.previous.now self.now.row.now i }
@@ -120,8 +125,8 @@ impl StepRows<'_> {
         u64::from(entered(self.row, i)) <= capacity + u64::from(left(self.previous, i))
     }
 
-    // Whether all movements keep 16, in one pass over them. By index here and below, since a rule takes an item's
-    // index.
+    // Whether all movements keep 16, in one pass over them. By index here and below, since a rule
+    // takes an item's index.
     fn keeps_shares(&self) -> bool
         ensures { result ≡ true → SharesKept self.now.step.now self.now.step.now.counts.movements }
     {
@@ -144,8 +149,8 @@ impl StepRows<'_> {
 }
 
 impl SumRule {
-    // Its number in the paper. A `match`, not discriminants: with these, a wrong program that gives two variants one
-    // number would not compile, and so would test no proof.
+    // Its number in the paper. A `match`, not discriminants: with these, a wrong program that gives
+    // two variants one number would not compile, and so would test no proof.
     pub fn number(self) -> u32
         ensures { result ≡ sum_rule_number self }
     {

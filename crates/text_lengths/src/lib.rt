@@ -1,2 +1,3 @@
-// The greatest lengths of texts that pass or are written, as the header has them: theorems. No code.
+// The greatest lengths of texts that pass or are written, as the header has them: theorems. No
+// code.
 #![tactic(auto)]

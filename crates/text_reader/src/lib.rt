@@ -13,7 +13,8 @@ const MAX_DIGITS: usize = 10;
 // How many bytes are passed at once on the way to a number of a line.
 const BLOCK: usize = 16;
 
-// What a line feed counts among the separators of a block, where a tab counts 1: a block with as many tabs is passed byte by byte.
+// What a line feed counts among the separators of a block, where a tab counts 1: a block with as
+// many tabs is passed byte by byte.
 const LINE_FEED: u8 = 15;
 
 // The digit 0, as a byte of a text.
@@ -40,8 +41,8 @@ pub struct LineNumber {
     pub next: usize,
 }
 
-// The number of the field after a tab, and which byte ends that field. Not an `Option`: if the byte after a number is
-// tested again for the next one, the largest plan took 4.9 % more instructions.
+// The number of the field after a tab, and which byte ends that field. Not an `Option`: if the byte
+// after a number is tested again for the next one, the largest plan took 4.9 % more instructions.
 #[derive(Clone, Copy)]
 enum Ended {
     ByTab(FieldNumber),
@@ -49,8 +50,9 @@ enum Ended {
     Neither,
 }
 
-// How the numbers that were read end: they are the last of their line, with the place of the next line; more follows
-// them; or one is missing. `line_at` refuses the last two, `head_at` only the last.
+// How the numbers that were read end: they are the last of their line, with the place of the next
+// line; more follows them; or one is missing. `line_at` refuses the last two, `head_at` only the
+// last.
 #[derive(Clone, Copy)]
 enum Numbers {
     Last(usize),
@@ -89,9 +91,9 @@ fn shifted(value: u32, b: u32) -> Option<u32>
     value.checked_mul(10)?.checked_add(b - ZERO)
 }
 
-// The number whose digits start at a place, and the place where its field ends: each place is compared with the end of
-// the text. Ten turns at most, which the compiler unrolls: it finds that only a tenth digit can exceed 32 bits.
-// Inlined, for check_plan's speed (docs/MEASUREMENTS.md).
+// The number whose digits start at a place, and the place where its field ends: each place is
+// compared with the end of the text. Ten turns at most, which the compiler unrolls: it finds that
+// only a tenth digit can exceed 32 bits. Inlined, for check_plan's speed (docs/MEASUREMENTS.md).
 #[inline(always)]
 fn digits_from(text: &[u8], from: usize) -> Option<FieldNumber>
     requires { from ≤ length text.now }
@@ -119,7 +121,8 @@ fn digits_from(text: &[u8], from: usize) -> Option<FieldNumber>
     Some(FieldNumber { value, next })
 }
 
-// The number of the field after a tab, and the place where that field ends. Inlined, for check_plan's speed (docs/MEASUREMENTS.md).
+// The number of the field after a tab, and the place where that field ends. Inlined, for
+// check_plan's speed (docs/MEASUREMENTS.md).
 #[inline(always)]
 fn tabbed_at(text: &[u8], at: usize) -> Option<FieldNumber>
     ensures { result ≡ tabbed_at text.now at }
@@ -134,7 +137,8 @@ fn tabbed_at(text: &[u8], at: usize) -> Option<FieldNumber>
     digits_from(text, start)
 }
 
-// Reads the numbers after a place where a field ends, in any text. Not inlined, for check_plan's speed (docs/MEASUREMENTS.md).
+// Reads the numbers after a place where a field ends, in any text. Not inlined, for check_plan's
+// speed (docs/MEASUREMENTS.md).
 #[inline(never)]
 fn guarded_numbers_at(text: &[u8], at: usize, out: &mut [u32]) -> Numbers
     requires { field_at text.now at ≡ [] }
@@ -155,11 +159,12 @@ fn guarded_numbers_at(text: &[u8], at: usize, out: &mut [u32]) -> Numbers
     }
 }
 
-// The number of the digits at a place, ten at most, and the place after them, in a text that ends with a line feed. The
-// line feed is the sentinel: the last byte is no digit, so no place is compared with the end. Each of the three
-// functions that rely on it requires it: a struct for such a text would be taken apart in each of them. By index: with
-// an iterator over the rest, which looks for its end at each digit, the largest plan took 24 % more instructions. The
-// compiler unrolls the loop and finds that only a tenth digit can exceed 32 bits.
+// The number of the digits at a place, ten at most, and the place after them, in a text that ends
+// with a line feed. The line feed is the sentinel: the last byte is no digit, so no place is
+// compared with the end. Each of the three functions that rely on it requires it: a struct for such
+// a text would be taken apart in each of them. By index: with an iterator over the rest, which
+// looks for its end at each digit, the largest plan took 24 % more instructions. The compiler
+// unrolls the loop and finds that only a tenth digit can exceed 32 bits.
 fn sentinel_digits_from(text: &[u8], from: usize) -> Option<FieldNumber>
     requires from_in_bounds { from < length text.now }
     requires text_value { get_or text.now (length text.now - 1) 0 ≡ 10 }
@@ -180,8 +185,8 @@ fn sentinel_digits_from(text: &[u8], from: usize) -> Option<FieldNumber>
     })
 }
 
-// The number after the tab at a place, and what ends it: a tab, after which the next number is read without another
-// test, or a line feed.
+// The number after the tab at a place, and what ends it: a tab, after which the next number is read
+// without another test, or a line feed.
 fn sentinel_tabbed_at(text: &[u8], at: usize) -> Ended
     requires at_value { get_or text.now at 0 ≡ 9 }
     requires text_value { get_or text.now (length text.now - 1) 0 ≡ 10 }
@@ -202,7 +207,8 @@ fn sentinel_tabbed_at(text: &[u8], at: usize) -> Ended
     }
 }
 
-// A line feed ends a number: that is the last of its line, if it was the last that was asked for, or one is missing.
+// A line feed ends a number: that is the last of its line, if it was the last that was asked for,
+// or one is missing.
 fn ended_by_line_feed(next: usize, was_last: bool) -> Numbers
     ensures { result ≡ ended_by_line_feed next was_last }
 {
@@ -213,7 +219,8 @@ fn ended_by_line_feed(next: usize, was_last: bool) -> Numbers
     }
 }
 
-// Reads the numbers after a tab in a text that a line feed ends. Not inlined, for check_plan's speed (docs/MEASUREMENTS.md).
+// Reads the numbers after a tab in a text that a line feed ends. Not inlined, for check_plan's
+// speed (docs/MEASUREMENTS.md).
 #[inline(never)]
 fn sentinel_numbers_at(text: &[u8], at: usize, out: &mut [u32]) -> Numbers
     requires at_value { field_at text.now at ≡ [] }
@@ -282,7 +289,8 @@ pub fn line_at(text: &[u8], at: usize, letter: u8, out: &mut [u32]) -> Option<us
     }
 }
 
-// Reads the beginning of the line of this letter at a place: the numbers that fill `out`, whatever follows them.
+// Reads the beginning of the line of this letter at a place: the numbers that fill `out`, whatever
+// follows them.
 pub fn head_at(text: &[u8], at: usize, letter: u8, out: &mut [u32]) -> bool
     ensures { Got (starts_as letter (length out.old) (line_at text.now at))
         (leading_as letter (length out.old) (line_at text.now at))
@@ -302,7 +310,8 @@ fn separator_weight(b: u8) -> u8
     }
 }
 
-// The separators of the block at a place. By index, and without a test of a single byte: the compiler adds up all bytes of the block at once.
+// The separators of the block at a place. By index, and without a test of a single byte: the
+// compiler adds up all bytes of the block at once.
 fn separators_in(text: &[u8], at: usize) -> u8
     requires { at + block_size ≤ length text.now }
     ensures { result ≡ separators text.now at block_size }
@@ -314,7 +323,8 @@ fn separators_in(text: &[u8], at: usize) -> u8
     sum
 }
 
-// Passes `n` fields of a line by whole blocks, as long as these have no line feed and no more tabs than are left to be passed.
+// Passes `n` fields of a line by whole blocks, as long as these have no line feed and no more tabs
+// than are left to be passed.
 fn past_blocks(text: &[u8], at: usize, n: usize) -> Passed
     requires { at ≤ length text.now }
     ensures { Passing text.now at n result }
@@ -353,7 +363,8 @@ fn past_fields(text: &[u8], at: usize, n: usize) -> usize
     place
 }
 
-// Whether no line feed stands in the block at a place. By index, and to its end: the compiler looks at all bytes of the block at once.
+// Whether no line feed stands in the block at a place. By index, and to its end: the compiler looks
+// at all bytes of the block at once.
 fn stays_in_line(text: &[u8], at: usize) -> bool
     requires { at + block_size ≤ length text.now }
     ensures { result ≡ stays_in_line text.now at block_size }
@@ -389,8 +400,8 @@ fn line_end(text: &[u8], at: usize) -> usize
     place
 }
 
-// Number `k` of the line at a place, from 0, or 0 where it has none; and the place of the next line. No other number is read: what stands before it and
-// behind it is passed by blocks.
+// Number `k` of the line at a place, from 0, or 0 where it has none; and the place of the next
+// line. No other number is read: what stands before it and behind it is passed by blocks.
 pub fn number_at(text: &[u8], at: usize, k: usize) -> LineNumber
     requires { at ≤ length text.now }
     ensures { result ≡ line_number text.now at k }

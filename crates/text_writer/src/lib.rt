@@ -1,5 +1,5 @@
-// Writes tab-separated records, which `text_reader` reads back: without leading zeros, into room for just the text; the
-// bytes after it are kept.
+// Writes tab-separated records, which `text_reader` reads back: without leading zeros, into room
+// for just the text; the bytes after it are kept.
 #![tactic(auto)]
 
 ghost use Rattle.std.specs.Prelude.{◌≡◌, ℕ, ◌+◌, ◌*◌, ◌≤◌, [], ◌∷◌, length};
@@ -29,8 +29,8 @@ pub fn widen(numbers: &[u32], wide: &mut [u64])
     }
 }
 
-// A lent buffer, and the place where the next byte is written. Not an `Output` of network_writer, which also takes
-// lines for which there is no room: here there is always room.
+// A lent buffer, and the place where the next byte is written. Not an `Output` of network_writer,
+// which also takes lines for which there is no room: here there is always room.
 #[derive(Drop)]
 struct Cursor<'a> {
     out: &'a mut [u8],
@@ -72,9 +72,9 @@ impl Cursor<'_> {
     }
 }
 
-// Writes a record: a letter, the numbers, each after a tab, and a line feed. Buffer and place are two parameters,
-// though a `Cursor` has both: the contract speaks of the bytes alone, and network_writer and plancheck_report rely on
-// that.
+// Writes a record: a letter, the numbers, each after a tab, and a line feed. Buffer and place are
+// two parameters, though a `Cursor` has both: the contract speaks of the bytes alone, and
+// network_writer and plancheck_report rely on that.
 #[tactic(auto, using(crate::proofs::Laws::record_is))]
 pub fn write_record(out: &mut [u8], at: usize, letter: u8, numbers: &[u64]) -> usize
     requires { at + length (record_text letter numbers.now) ≤ length out.old }

@@ -1,4 +1,5 @@
-// Time-distance traces: vehicles along a street, in metres as 64-bit floats. `step_vehicles` moves them by one step. Each sum and difference is rounded once.
+// Time-distance traces: vehicles along a street, in metres as 64-bit floats. `step_vehicles` moves
+// them by one step. Each sum and difference is rounded once.
 #![tactic(auto)]
 
 ghost use Rattle.std.specs.Prelude.{◌≡◌, length};
@@ -26,7 +27,8 @@ pub struct Vehicle {
     pub advance: f64,
 }
 
-// What may stop a vehicle: nothing, the leader's last place (one spacing behind it), or a red line at or ahead of it.
+// What may stop a vehicle: nothing, the leader's last place (one spacing behind it), or a red line
+// at or ahead of it.
 #[derive(Clone, Copy)]
 pub enum Obstacle {
     OpenRoad,
@@ -87,7 +89,8 @@ fn move_all(places: &mut [f64], advances: &[f64], red_lines: &[f64], spacing: f6
     ensures { places.new ≡ list (length places.old) (place_after places.old advances.now red_lines.now spacing) }
 {
     let mut ahead = Obstacle::OpenRoad;
-    // Not a `zip` with the advances: a proof knows nothing of an element that is written through it.
+    // Not a `zip` with the advances: a proof knows nothing of an element that is written through
+    // it.
     for (i, place) in places.iter_mut().enumerate() {
         let vehicle = Vehicle {
             place: *place,
@@ -98,7 +101,8 @@ fn move_all(places: &mut [f64], advances: &[f64], red_lines: &[f64], spacing: f6
     }
 }
 
-// Whether a place or a line is finite and not beyond a million metres either way. A NaN and an infinity fail a comparison.
+// Whether a place or a line is finite and not beyond a million metres either way. A NaN and an
+// infinity fail a comparison.
 fn valid_place(x: f64) -> bool
     ensures { result ≡ valid_place x }
 {
@@ -113,7 +117,8 @@ fn valid_distance(x: f64) -> bool
     valid_place(x) && !(x < 0.0)
 }
 
-// This and the next are functions, since `search` does not prove a chain of `all` in `check_values`.
+// This and the next are functions, since `search` does not prove a chain of `all` in
+// `check_values`.
 fn valid_places(values: &[f64]) -> bool
     ensures { result ≡ list_all valid_place values.now }
 {
