@@ -151,11 +151,13 @@ module _ {run : Run} {state : State} {signals : List Signal} {arrivals : List Ar
                 ∙ rw (at_next, travel-time-at asked.tables.link-table i l) (arrival-is asked.tables.time-table (suc n) i asked.more);
           }
 
+      -- what the step says of its tables
       pub tables-fit : StepTables counts tables.links.now tables.movements.now signals said.plan said.step said.phases said.asked n
       tables-fit =
           step-tables asked.tables.holds counted asked.tables.link-table asked.tables.movement-table
           asked.state-at.signals-at read.plan-numbers offers read.shown read.asked asked.more
 
+      -- and all that its limits and its sums ask of them
       pub fit : StepFit counts tables.links.now tables.movements.now tables.times.now signals said.plan said.step said.phases said.asked ledger arrivals' n
       fit =
           step-fit asked.tables.holds counted asked.tables.link-table asked.tables.movement-table asked.tables.time-table asked.state-at.signals-at read.plan-numbers offers read.shown read.asked arrivals-at asked.more

@@ -62,6 +62,7 @@ module _ {network : List Line} {plan : List Line} {n : ℕ} {counts : Counts} {l
       let p : (signal network r).phases ≤ 8 = unfold valid_phases within in leb-true _ _ (and_right _ _ (valid.phases r h)) in
       rw (shown.holds r h) (unfold shown_in in le_trans (phase-of-le (shown_mask network plan n r) (signal network r).phases) p)
 
+  -- what a step says of its tables
   pub step-tables : StepTables counts links movements signals line step phases asked n
   step-tables =
       record {
@@ -93,6 +94,7 @@ module _ {network : List Line} {plan : List Line} {n : ℕ} {counts : Counts} {l
   unfolding on_timeline
   timeline-end = omega (arith, counted.past)
 
+  -- and all that is asked of them
   pub step-fit : {ledger : List ℕ} → 2 * suc n * link_count network ≤ length ledger → StepFit counts links movements times signals line step phases asked ledger arrivals n
   step-fit room =
       let valid = valid-network network holds in

@@ -26,10 +26,9 @@ pub record StepTables (counts : Counts) (links : List Link) (movements : List Mo
   pub step-size : length step_line ≡ step_size
   pub last : boundary < max_steps
 
--- the same, and what the limits and the sums ask: the counts are few, and the tables have their
--- sizes; links name signals, and movements links; rates are limited; the ledger has the rows up to
--- the boundary at which the step begins; and each travel time before the next boundary ends in a
--- step before that
+-- `StepTables`, `Limited` and `ArrivalTables` in one: also links name signals, and rates are
+-- limited; the ledger has the rows up to the boundary at which the step begins; and each travel time
+-- before the next boundary ends in a step before that
 pub record StepFit (counts : Counts) (links : List Link) (movements : List Movement) (times : List ℕ) (signals : List Signal)
     (plan_line step_line phases asked ledger : List ℕ) (arrivals : List Arrival) (boundary : ℕ) : Type 0 where
   pub few : Few counts
